@@ -30,5 +30,6 @@ pub use error::{ParseError, WriteError};
 pub use message::Message;
 pub use piece::{ChoiceKind, Piece, Word};
 pub use places::Places;
+pub use showing::whole_number;
 pub use shown_number::ShownNumber;
 pub use signature::{ArgumentKind, NamedKind};

@@ -32,8 +32,11 @@ fn is_minus(sign: Sign) -> bool
     }
 }
 
-/// The whole number below 10^18 that a decimal is, if it is one.
-fn whole_number(value: &Decimal) -> Option<u64>
+/// The whole number below 10^18 that a decimal is, if it is one: the number by which the keys `=0`
+/// and `=1` of a message pick. `-0` is the whole number 0, and `1.0` is 1.
+// promise: `-0` is the whole number 0, `1.0` is 1, and -1 is none.
+// mutations: shown_negative_number_is_whole
+pub fn whole_number(value: &Decimal) -> Option<u64>
     ensures { result ≡ whole_of (is_negative value.now.sign) value.now.absolute }
 {
     let operands = PluralOperands::from_significand_and_exponent(&value.absolute, 0).raw();
@@ -55,11 +58,9 @@ impl ShownNumber {
     ghost use Rattle.writeable.specs.Events.{text_of};
 
     /// A decimal as a formatter shows it, with its sign: the text, and the operands of what is
-    /// shown. The number is rounded once. `-0` is the whole number 0, and `1.0` is 1.
+    /// shown. The number is rounded once. Its whole number is that of [`whole_number`].
     // promise: Text and operands are those of what the formatter shows.
     // mutations: shown_operands_of_the_input
-    // promise: `-0` is the whole number 0, `1.0` is 1, and -1 is none.
-    // mutations: shown_negative_number_is_whole
     pub fn of<F: AbstractFormatter>(
         alloc: Global,
         formatter: &F,

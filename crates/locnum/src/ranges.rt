@@ -9,13 +9,12 @@ use icu_provider::DataErrorKind;
 use icu_range_tables::{RangeTables, TableError};
 use icu_ranges::{RangeIdentityFallback, RangePattern, RangeStyle};
 use itoa::Buffer;
-use locnum_lines::{Alignment, LineSettings, Padding, Refusals, Report, RunError};
+use locnum_lines::{LineSettings, Refusals, Report, RunError, push_padded};
 use number_forms::{Form, Settings, StartError, push_reported};
 use number_ranges::{RangeTextError, push_range};
 use std::alloc::{AllocError, Global};
 use std::io::Write;
 use std::str;
-use unicode_width::UnicodeWidthStr;
 
 /// What stands between the two numbers of a range.
 const BETWEEN: &str = "..";
@@ -86,41 +85,6 @@ pub(crate) fn note_of_no_ranges(
     note.extend_from_slice(settings.locale.as_str().as_bytes())?;
     note.extend_from_slice(b"; cldr_to_tables.py --ranges writes them\n")?;
     Ok(note)
-}
-
-/// Appends spaces.
-fn push_spaces(count: usize, out: &mut Vec<u8>) -> Result<(), AllocError> {
-    for _ in 0..count {
-        out.push(b' ')?;
-    }
-    Ok(())
-}
-
-/// How many spaces fill a text up to its columns.
-fn missing_columns(padding: Padding, text: &[u8]) -> usize {
-    let width = match str::from_utf8(text) {
-        Ok(text) => text.width(),
-        Err(_) => text.len(),
-    };
-    usize::from(padding.columns).saturating_sub(width)
-}
-
-/// Appends a text, filled up with spaces where a width is asked for.
-fn push_padded(padding: Option<Padding>, text: &[u8], out: &mut Vec<u8>) -> Result<(), AllocError> {
-    let Some(padding) = padding else {
-        return out.extend_from_slice(text);
-    };
-    let missing = missing_columns(padding, text);
-    match padding.alignment {
-        Alignment::Left => {
-            out.extend_from_slice(text)?;
-            push_spaces(missing, out)
-        }
-        Alignment::Right => {
-            push_spaces(missing, out)?;
-            out.extend_from_slice(text)
-        }
-    }
 }
 
 /// The note of a word that isn't written as a range.

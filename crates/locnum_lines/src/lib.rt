@@ -24,6 +24,6 @@ mod writing;
 
 pub use finding::{FoundNumber, NumberFinder, RecordState};
 pub use front::behind_mark;
-pub use padding::{Alignment, Padding};
+pub use padding::{Alignment, Padding, push_padded};
 pub use running::{Report, RunError, run};
 pub use settings::{Delimiter, FieldRange, LineSettings, Refusals, Source};

@@ -1,10 +1,11 @@
 //! Numbers that are filled up with spaces to a width.
 
-ghost use Rattle.std.specs.Prelude.{◌≡◌, ◌+◌, ◌^◌, ◌<◌, ◌≤◌, All, IsTrue, length, option_map};
-ghost use Rattle.locnum_lines.specs.Padding.{columns_of};
+ghost use Rattle.std.specs.Prelude.{◌≡◌, ◌+◌, ◌^◌, ◌<◌, ◌≤◌, ◌++◌, All, IsTrue, OnOk, Some, length, option_map};
+ghost use Rattle.locnum_lines.specs.Padding.{columns_of, padded, spaces};
 ghost use Rattle.locnum_lines.specs.Widths.{own_width, padding_width, width_by};
 
 use crate::settings::{Delimiter, LineSettings};
+use std::alloc::AllocError;
 use std::str;
 use unicode_width::UnicodeWidthStr;
 
@@ -103,5 +104,49 @@ pub(crate) fn columns_of(text: &[u8]) -> usize
     match str::from_utf8(text) {
         Ok(text) => text.width(),
         Err(_) => text.len(),
+    }
+}
+
+/// Appends that many spaces.
+fn push_spaces(count: usize, out: &mut Vec<u8>) -> Result<(), AllocError>
+    ensures { OnOk result (out.new.items ≡ out.old.items ++ spaces count) }
+{
+    let Some(length) = out.len().checked_add(count) else {
+        return Err(AllocError);
+    };
+    out.resize(length, b' ')
+}
+
+/// Appends a text in columns of this width.
+// promise: Padding counts the columns of a terminal, not bytes.
+// mutations: padding_by_bytes
+pub(crate) fn push_aligned(width: Width, text: &[u8], out: &mut Vec<u8>) -> Result<(), AllocError>
+    ensures { OnOk result (out.new.items ≡ out.old.items ++ padded (Some width) text.now) }
+{
+    let missing = width.columns.saturating_sub(columns_of(text));
+    match width.alignment {
+        Alignment::Left => {
+            out.extend_from_slice(text)?;
+            push_spaces(missing, out)
+        }
+        Alignment::Right => {
+            push_spaces(missing, out)?;
+            out.extend_from_slice(text)
+        }
+    }
+}
+
+/// Appends a text, filled up with spaces to the columns of a padding; without a padding, the text.
+pub fn push_padded(
+    padding: Option<Padding>,
+    text: &[u8],
+    out: &mut Vec<u8>,
+) -> Result<(), AllocError>
+    ensures { OnOk result (out.new.items
+        ≡ out.old.items ++ padded (option_map padding_width padding) text.now) }
+{
+    match padding_width(padding) {
+        Some(width) => push_aligned(width, text, out),
+        None => out.extend_from_slice(text),
     }
 }

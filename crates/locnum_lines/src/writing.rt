@@ -3,7 +3,7 @@
 use crate::csv::{push_quoted, wants_quotes};
 use crate::gathered::Gathered;
 use crate::holding::hold;
-use crate::padding::{Alignment, Width, columns_of};
+use crate::padding::{Width, push_aligned};
 use crate::settings::Delimiter;
 use decimal_lines::TextError;
 use number_forms::Form;
@@ -15,7 +15,7 @@ impl Gathered {
     ghost use Rattle.number_forms.specs.Forms.{form_events};
     ghost use Rattle.locnum_lines.specs.Csv.{as_field};
     ghost use Rattle.locnum_lines.specs.FieldRuns.{held_by};
-    ghost use Rattle.locnum_lines.specs.Padding.{padded, spaces};
+    ghost use Rattle.locnum_lines.specs.Padding.{padded};
     ghost use Rattle.locnum_lines.specs.Ran.{first_of};
     ghost use Rattle.locnum_lines.specs.declared.settings.Delimiter.TheVariants.{Byte};
     ghost use Rattle.writeable.specs.Events.{Event, text_of};
@@ -92,38 +92,6 @@ impl Gathered {
         self.write(text)
     }
 
-    /// That many spaces of the output.
-    fn write_spaces(&mut self, count: usize) -> Result<(), AllocError>
-        ensures { OnOk result
-            (self.new ≡ record self.old { output = self.old.output ++ spaces count }) }
-    {
-        let Some(length) = self.output.len().checked_add(count) else {
-            return Err(AllocError);
-        };
-        self.output.resize(length, b' ')
-    }
-
-    /// A text in columns of this width.
-    // promise: Padding counts the columns of a terminal, not bytes.
-    // mutations: padding_by_bytes
-    fn write_padded(&mut self, width: Width, text: &[u8]) -> Result<(), AllocError>
-        ensures { OnOk result (self.new ≡ record self.old {
-          output = self.old.output ++ padded (Some width) text.now;
-        }) }
-    {
-        let missing = width.columns.saturating_sub(columns_of(text));
-        match width.alignment {
-            Alignment::Left => {
-                self.write(text)?;
-                self.write_spaces(missing)
-            }
-            Alignment::Right => {
-                self.write_spaces(missing)?;
-                self.write(text)
-            }
-        }
-    }
-
     /// A number that is shown so, in columns of this width.
     pub(crate) fn write_columns(
         &mut self,
@@ -137,6 +105,6 @@ impl Gathered {
         }) }
     {
         hold(delimiter, number, &mut self.holding)?;
-        self.write_padded(width, number)
+        push_aligned(width, number, &mut self.output)
     }
 }

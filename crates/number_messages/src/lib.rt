@@ -4,6 +4,5 @@
 
 mod operands;
 mod showing;
-mod whole;
 
 pub use showing::shown_by;

@@ -8,9 +8,8 @@ ghost use Rattle.number_messages.specs.Operands.{HasFormOperands};
 ghost use Rattle.number_messages.specs.Shown.{IsShownBy, IsWholeOf};
 
 use crate::operands::operands_shown;
-use crate::whole::whole_number;
 use decimal_lines::{TextError, read_decimal};
-use icu_message::ShownNumber;
+use icu_message::{ShownNumber, whole_number};
 use icu_plurals::PluralOperands;
 use number_forms::Form;
 use std::alloc::Global;

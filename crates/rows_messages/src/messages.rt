@@ -2,6 +2,7 @@
 
 use crate::CallResult;
 use crate::faults::of_text;
+use crate::numbers::whole_of_text;
 use icu_message::{ArgumentKind, Message, NamedKind, ParseError};
 use number_skeleton::FaultKind;
 use std::alloc::{AllocError, Global};
@@ -118,6 +119,7 @@ pub(crate) fn returned(alloc: Global, call: &str, arguments: &[String]) -> CallR
         [text] if call == "signature" => signature(alloc, text),
         [text, name] if call == "places_of" => places_of(alloc, text, name),
         [name] if call == "display" => display(alloc, name),
+        [text] if call == "whole_number" => whole_of_text(alloc, text),
         _ => Ok(None),
     }
 }

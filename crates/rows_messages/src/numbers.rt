@@ -5,7 +5,7 @@ use crate::arguments::number_in;
 use fixed_decimal::{Decimal, DecimalError};
 use icu_decimal::error::FormatError;
 use icu_decimal_interface::AbstractFormatter;
-use icu_message::ShownNumber;
+use icu_message::{ShownNumber, whole_number};
 use std::alloc::{AllocError, Global};
 use std::str;
 
@@ -86,5 +86,17 @@ pub(crate) fn of<F: AbstractFormatter>(alloc: Global, formatter: &F, text: &str)
     match shown(alloc, formatter, text) {
         Ok(number) => said(alloc, &number),
         Err(fault) => reason_unshown(alloc, fault),
+    }
+}
+
+/// The whole number that a text's decimal is.
+pub(crate) fn whole_of_text(alloc: Global, text: &str) -> CallResult {
+    match Decimal::try_from_str(alloc, text) {
+        Ok(decimal) => match whole_number(&decimal) {
+            Some(whole) => Ok(Some(format!(in alloc; "{whole}")?)),
+            None => Ok(Some(String::from_str(alloc, "none")?)),
+        },
+        Err(DecimalError::OutOfMemory) => Err(AllocError),
+        Err(_) => Ok(None),
     }
 }
