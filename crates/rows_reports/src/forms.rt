@@ -233,7 +233,9 @@ pub(crate) fn returned(
     };
     match call {
         "parse_options" => parsed(alloc, words, &options),
-        "find" | "is_open" | "behind_mark" => records::returned(alloc, call, words, &options),
+        "find" | "is_open" | "behind_mark" | "push_padded" => {
+            records::returned(alloc, call, words, &options)
+        }
         _ => match words.split_first() {
             Some((file, words)) => match question_of(call, words) {
                 Some(question) => by_file(alloc, documents, &options, file.as_str(), question),

@@ -4,7 +4,9 @@ use crate::CallResult;
 use crate::bytes::{bytes_of, push_behind, push_text, text_if, text_of};
 use crate::options::settings_of;
 use crate::words::Pair;
-use locnum_lines::{FoundNumber, LineSettings, NumberFinder, RecordState, behind_mark};
+use locnum_lines::{
+    FoundNumber, LineSettings, NumberFinder, RecordState, behind_mark, push_padded,
+};
 use std::alloc::{AllocError, Global};
 
 /// How many numbers are listed at most.
@@ -106,16 +108,32 @@ fn behind(alloc: Global, settings: &LineSettings, text: &str) -> CallResult {
     Ok(Some(text_of(alloc, behind_mark(settings.source, &bytes))?))
 }
 
+/// What `push_padded` appends to `>`, and `<`, so that spaces at its end are seen.
+fn padded(alloc: Global, settings: &LineSettings, text: &str) -> CallResult {
+    let mut out = Vec::from_slice(alloc, b">")?;
+    push_padded(settings.padding, &bytes_of(alloc, text)?, &mut out)?;
+    out.push(b'<')?;
+    Ok(Some(text_of(alloc, &out)?))
+}
+
+/// What a call answers by settings for one text.
+fn by_text(alloc: Global, call: &str, text: &str, settings: &LineSettings) -> CallResult {
+    match call {
+        "behind_mark" => behind(alloc, settings, text),
+        "push_padded" => padded(alloc, settings, text),
+        _ => Ok(None),
+    }
+}
+
 /// What a call answers by settings.
 fn by_settings(alloc: Global, call: &str, words: &[String], settings: &LineSettings) -> CallResult {
     match call {
         "find" => found(alloc, settings, words),
         "is_open" => open_behind(alloc, settings, words),
-        "behind_mark" => match words {
-            [text] => behind(alloc, settings, text.as_str()),
+        _ => match words {
+            [text] => by_text(alloc, call, text.as_str(), settings),
             _ => Ok(None),
         },
-        _ => Ok(None),
     }
 }
 
