@@ -96,8 +96,10 @@ fn category(
 
 /// What a call that loads from the tables of a document answers.
 fn loaded(alloc: Global, text: &str, kind: &str, arguments: &[String]) -> Result<String, Fault> {
-    let Ok(tables) = RangeTables::from_json(alloc, text) else {
-        return Err(Fault::Unreadable);
+    let tables = match RangeTables::from_json(alloc, text) {
+        Ok(tables) => tables,
+        Err(TableError::OutOfMemory) => return Err(Fault::OutOfMemory),
+        Err(_) => return Err(Fault::Unreadable),
     };
     match (kind, arguments) {
         ("RangePattern", [locale, system]) => separator(alloc, &tables, locale, system),
