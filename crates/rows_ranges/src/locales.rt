@@ -10,6 +10,7 @@ use icu_decimal::{CompactDecimalFormatter, DecimalFormatter};
 use icu_decimal_interface::AbstractFormatter;
 use icu_provider::DataLocale;
 use icu_ranges::{NumberRangeFormatter, RangeIdentityFallback, RangePattern};
+use icu_ranges_readable::are_ranges_readable;
 use icu_tables::Tables;
 use rows::Documents;
 use std::alloc::Global;
@@ -99,6 +100,20 @@ pub(crate) fn tables(alloc: Global, documents: &Documents) -> Result<Tables, Fau
         Some(text) => Ok(Tables::from_json(alloc, text)?),
         None => Err(Fault::Unreadable),
     }
+}
+
+/// Whether ranges of a locale's plain numbers are readable.
+pub(crate) fn readable(
+    alloc: Global,
+    documents: &Documents,
+    word: &str,
+    pattern: &str,
+) -> Result<String, Fault> {
+    let tables = tables(alloc, documents)?;
+    let formatter = plain(alloc, &tables, word)?;
+    let pattern = RangePattern::parse(alloc, pattern)?;
+    let answer = are_ranges_readable(&formatter, &pattern);
+    Ok(String::from_str(alloc, if answer { "yes" } else { "no" })?)
 }
 
 /// What a call of ranges of numbers answers.

@@ -39,6 +39,9 @@ fn returned(
             let range = (pattern.as_str(), start.as_str(), end.as_str());
             locales::numbers(alloc, documents, call, locale, range)
         }
+        ("", [locale, pattern]) if call == "are_ranges_readable" => {
+            locales::readable(alloc, documents, locale, pattern)
+        }
         ("PluralRanges", _) => plural::returned(alloc, documents, call, arguments),
         ("PercentRangeFormatter" | "CurrencyRangeFormatter", _) => {
             amounts::returned(alloc, documents, (kind, call), arguments)

@@ -1,0 +1,28 @@
+-- Tests of the characters of texts.
+use Rattle.std.specs.Prelude.{ℕ, Bool, true, false, not, ◌==◌, ◌&&◌, ◌||◌, List, [], ◌∷◌}
+use Rattle.std.specs.Str.{chars}
+use Rattle.icu_decimal_symbols.specs.Symbols.{SymbolTexts}
+
+-- a character stands among others
+abbrev pub has : ℕ → List ℕ → Bool
+has c [] = false
+has c (x ∷ xs) = x == c || has c xs
+
+-- one of these stands among others
+abbrev pub has_any : List ℕ → List ℕ → Bool
+has_any [] xs = false
+has_any (c ∷ cs) xs = has c xs || has_any cs xs
+
+-- the first character is there, and isn't a space
+abbrev pub begins_with_ink : List ℕ → Bool
+begins_with_ink [] = false
+begins_with_ink (c ∷ cs) = not (c == 32)
+
+-- a character isn't a space, and stands in neither separator of numbers
+abbrev pub is_mark : SymbolTexts → ℕ → Bool
+is_mark texts c = not (c == 32) && (not (has c (chars texts.decimal_separator)) && not (has c (chars texts.grouping_separator)))
+
+-- some character is such a mark
+abbrev pub has_mark : SymbolTexts → List ℕ → Bool
+has_mark texts [] = false
+has_mark texts (c ∷ cs) = is_mark texts c || has_mark texts cs

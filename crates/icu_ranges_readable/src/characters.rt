@@ -1,0 +1,74 @@
+//! Tests of the characters of texts.
+
+ghost use Rattle.std.specs.Prelude.{◌≡◌, chars};
+ghost use Rattle.icu_ranges_readable.specs.Characters.{begins_with_ink, has, has_any, has_mark, is_mark};
+
+use icu_decimal_symbols::DecimalSymbols;
+
+/// Whether a character is one of some.
+pub(crate) fn is_among(character: char, characters: &[char]) -> bool
+    ensures { result ≡ has character characters.now }
+{
+    for found in characters {
+        if *found == character {
+            return true;
+        }
+    }
+    false
+}
+
+/// Whether a character stands in a text.
+fn has(character: char, text: &str) -> bool
+    ensures { result ≡ has character (chars text.now) }
+{
+    for found in text.chars() {
+        if found == character {
+            return true;
+        }
+    }
+    false
+}
+
+/// Whether one of some characters stands in a text.
+pub(crate) fn has_any(characters: &[char], text: &str) -> bool
+    ensures { result ≡ has_any characters.now (chars text.now) }
+{
+    for character in characters {
+        if has(*character, text) {
+            return true;
+        }
+    }
+    false
+}
+
+/// Whether a text has a first character that isn't a space.
+pub(crate) fn begins_with_ink(text: &str) -> bool
+    ensures { result ≡ begins_with_ink (chars text.now) }
+{
+    match text.chars().next() {
+        Some(character) => character != ' ',
+        None => false,
+    }
+}
+
+/// Whether a character isn't a space, and stands in neither separator of numbers.
+fn is_mark(symbols: &DecimalSymbols, character: char) -> bool
+    ensures { result ≡ is_mark symbols.now.strings character }
+{
+    if character == ' ' || has(character, symbols.decimal_separator()) {
+        return false;
+    }
+    !has(character, symbols.grouping_separator())
+}
+
+/// Whether some character of a text is such a mark.
+pub(crate) fn has_mark(symbols: &DecimalSymbols, text: &str) -> bool
+    ensures { result ≡ has_mark symbols.now.strings (chars text.now) }
+{
+    for character in text.chars() {
+        if is_mark(symbols, character) {
+            return true;
+        }
+    }
+    false
+}

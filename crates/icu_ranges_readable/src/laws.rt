@@ -1,0 +1,12 @@
+//! What the text of a range determines. The function does nothing: it is its contract.
+
+ghost use Rattle.icu_ranges_readable.specs.RangeLaws.{EqualRangeTextsTell, RangeTextTellsBothEnds};
+
+/// If ranges are readable, equal texts mean equal ranges: both starts and both ends are equal, in
+/// sign, range and every digit. This holds for texts as lists of characters, and for those that
+/// `write_to_string` returns.
+// promise: If readable, equal texts of ranges mean equal ends.
+pub fn range_text_tells_both_ends()
+    ensures characters { RangeTextTellsBothEnds }
+    ensures texts { EqualRangeTextsTell }
+{}

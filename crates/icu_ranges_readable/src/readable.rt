@@ -1,0 +1,56 @@
+//! Whether ranges of plain numbers are readable.
+
+ghost use Rattle.std.specs.Prelude.{◌≡◌, ◌↔◌, IsTrue, chars};
+ghost use Rattle.icu_ranges_readable.specs.ReadableRange.{IsReadableRange, SignsStandInFront};
+
+use crate::characters::{begins_with_ink, has_any, has_mark, is_among};
+use icu_decimal::DecimalFormatter;
+use icu_decimal_symbols::DecimalSymbols;
+use icu_ranges::RangePattern;
+
+/// Whether two texts have the same characters.
+fn has_same_characters(one: &str, other: &str) -> bool
+    ensures { IsTrue result ↔ (chars one.now ≡ chars other.now) }
+{
+    one == other
+}
+
+/// Whether what stands in front of a number tells its sign.
+fn do_signs_stand_in_front(symbols: &DecimalSymbols) -> bool
+    ensures { IsTrue result ↔ SignsStandInFront symbols.now.strings }
+{
+    let minus = symbols.minus_sign_prefix();
+    let plus = symbols.plus_sign_prefix();
+    if !begins_with_ink(minus) || !begins_with_ink(plus) {
+        return false;
+    }
+    !has_same_characters(minus, plus)
+}
+
+/// Whether the texts of ranges with this pattern determine both numbers, over a plain formatter: in
+/// sign, range and every digit (this project's own).
+///
+/// They do under these conditions. The numbers are readable ([`DecimalFormatter::is_readable`]). No
+/// digit is a space, and none stands in the separator. The separator has a character that isn't a
+/// space and stands in neither separator of numbers. The texts of minus and plus stand in front of
+/// numbers, differ, and don't begin with a space. It takes no memory.
+///
+/// If the answer is true, [`laws::range_text_tells_both_ends`] says that equal texts are of equal
+/// ranges.
+///
+/// [`laws::range_text_tells_both_ends`]: crate::laws::range_text_tells_both_ends
+// promise: It decides exactly whether ranges are readable.
+// mutations: readable_range_without_a_mark
+pub fn are_ranges_readable(formatter: &DecimalFormatter, pattern: &RangePattern) -> bool
+    ensures { IsTrue result ↔ IsReadableRange formatter.now pattern.now }
+{
+    let symbols = formatter.symbols();
+    let separator = pattern.separator();
+    if !formatter.is_readable() || is_among(' ', formatter.digits()) {
+        return false;
+    }
+    if has_any(formatter.digits(), separator) || !has_mark(symbols, separator) {
+        return false;
+    }
+    do_signs_stand_in_front(symbols)
+}
