@@ -3,4 +3,8 @@ pub mod NumberShape
 pub mod Spaces
 pub mod CharacterSteps
 pub mod MarksFound
+pub mod TwoNumbers
+pub mod RangesTold
+pub mod JoinedTexts
 pub mod RangeTexts
+pub mod AmountTexts

@@ -1,12 +1,12 @@
 -- What the tests of characters find.
 use Rattle.std.proofs.Common.{◌≡◌, ◌≢◌, ◌⊎◌, inl, inr, ◌==◌, ◌||◌, not, ℕ, zero, suc, ◌<◌, arith, refl, sym, ap, ◌∙◌, subst, List, [], ◌∷◌}
-use Rattle.std.proofs.Common.{length, slice_index_or, All, Bool, true, false, Contains}
+use Rattle.std.proofs.Common.{length, slice_index_or, All, Bool, true, false, Contains, ◌+◌, if◌then◌else◌}
 use Rattle.std.specs.Str.{chars}
 use Rattle.std.proofs.lemmas.Bool.{and_parts, eq-eqb, eqb-true}
 use Rattle.icu_decimal.proofs.Runs.{Begins, Every, every_of_all}
 use Rattle.icu_decimal_symbols.specs.Symbols.{SymbolTexts}
-use Rattle.icu_ranges_readable.specs.Characters.{begins_with_ink, has, has_any, has_mark, is_mark}
-use Rattle.icu_ranges_readable.proofs.Spaces.{Has, IsInk}
+use Rattle.icu_ranges_readable.specs.Characters.{begins_with_ink, begins_with_space, has, has_any, has_mark, is_mark}
+use Rattle.icu_ranges_readable.proofs.Spaces.{Has, IsInk, inks}
 
 -- nothing is both
 pub clashing : (b : Bool) → b ≡ true → b ≡ false → ⊥
@@ -111,7 +111,18 @@ pub ink_begins : (xs : List ℕ) → begins_with_ink xs ≡ true → Begins IsIn
 ink_begins [] e = tt
 ink_begins (c ∷ cs) e = λ space. clashing (c == 32) (eq-eqb c 32 space) (not_true (c == 32) e)
 
+-- one that doesn't begin with a space
+pub no_space_begins : (xs : List ℕ) → begins_with_space xs ≡ false → Begins IsInk xs
+no_space_begins [] e = tt
+no_space_begins (c ∷ cs) e = λ space. clashing (c == 32) (eq-eqb c 32 space) e
+
 -- it isn't empty
 pub ink_some : (xs : List ℕ) → begins_with_ink xs ≡ true → [] ≢ xs
 ink_some [] e = cc
 ink_some (c ∷ cs) e = λ nothing. cc
+
+-- it has a character that isn't a space
+pub ink_count : (xs : List ℕ) → begins_with_ink xs ≡ true → 0 < inks xs
+ink_count [] e = cc
+ink_count (c ∷ cs) e =
+    elim (c == 32) as (λ b. not b ≡ true → 0 < (if b then 0 else 1) + inks cs) [ true ↦ (λ none. cc) | false ↦ (λ some. omega arith) ] e

@@ -1,5 +1,6 @@
 -- Spaces around a text that isn't all spaces, and what follows them, are determined.
 use Rattle.std.proofs.Common.{◌≡◌, ◌≢◌, ◌⊎◌, inl, inr, ℕ, refl, sym, ap, ◌∙◌, List, [], ◌∷◌, ◌++◌, Bool, true, false}
+use Rattle.std.proofs.Common.{◌+◌, ◌==◌, arith, if◌then◌else◌}
 use Rattle.std.proofs.lemmas.List.{append_cancel_left}
 use Rattle.icu_decimal.proofs.Runs.{Begins}
 
@@ -61,3 +62,18 @@ spaced_tells c ink xs h true false after next ps qs hp hq e =
     absurd (no_shift c ink xs (spaces after ++ ps) (spaces next ++ qs) h e)
 spaced_tells c ink xs h false true after next ps qs hp hq e =
     absurd (no_shift c ink xs (spaces next ++ qs) (spaces after ++ ps) h (sym e))
+
+-- how many characters aren't spaces
+abbrev pub inks : List ℕ → ℕ
+inks [] = 0
+inks (c ∷ cs) = (if c == 32 then 0 else 1) + inks cs
+
+-- of two texts together, those of both
+pub inks-append : (xs ys : List ℕ) → inks (xs ++ ys) ≡ inks xs + inks ys
+inks-append [] ys = omega arith
+inks-append (c ∷ cs) ys = let more = inks-append cs ys in omega (arith, more)
+
+-- of spaces none
+pub inks-spaces : (b : Bool) → inks (spaces b) ≡ 0
+inks-spaces true = refl
+inks-spaces false = refl

@@ -18,6 +18,11 @@ abbrev pub begins_with_ink : List ℕ → Bool
 begins_with_ink [] = false
 begins_with_ink (c ∷ cs) = not (c == 32)
 
+-- the first character is a space
+abbrev pub begins_with_space : List ℕ → Bool
+begins_with_space [] = false
+begins_with_space (c ∷ cs) = c == 32
+
 -- a character isn't a space, and stands in neither separator of numbers
 abbrev pub is_mark : SymbolTexts → ℕ → Bool
 is_mark texts c = not (c == 32) && (not (has c (chars texts.decimal_separator)) && not (has c (chars texts.grouping_separator)))

@@ -5,8 +5,10 @@ use Rattle.fixed_decimal.specs.Unsigned.{Unsigned, IsUnsigned}
 use Rattle.writeable.specs.Events.{Event, characters, text_of}
 use Rattle.icu_decimal.specs.Decimal.{DecimalFormat}
 use Rattle.icu_decimal_interface.specs.Shown.{plain_shown}
+use Rattle.icu_dimension.specs.Money.{SignedFormat}
+use Rattle.icu_ranges.specs.Around.{amounts_events}
 use Rattle.icu_ranges.specs.Ranges.{RangeStyle, numbers_events}
-use Rattle.icu_ranges_readable.specs.ReadableRange.{IsReadableRange}
+use Rattle.icu_ranges_readable.specs.ReadableRange.{IsReadableAmountRange, IsReadableRange}
 
 -- a number: its sign, and its digits in their range
 pub record Number : Type 0 where
@@ -39,3 +41,20 @@ abbrev pub EqualRangeTextsTell : Type 0
 EqualRangeTextsTell = (f : DecimalFormat) (style : RangeStyle) (p q : Pair) (one other : List ℕ) → IsReadableRange f style.separator →
     ArePlain p → ArePlain q
     → one ≡ text_of (plain_range f style p) → other ≡ text_of (plain_range f style q) → one ≡ other → p ≡ q
+
+-- what is written for two amounts of money, or two numbers of percents, over a plain formatter
+abbrev pub plain_amounts : SignedFormat DecimalFormat → RangeStyle → Pair → List Event
+plain_amounts f style p =
+    amounts_events style f.patterns p.start.sign p.end.sign
+    (record { first = plain_shown f.formatter p.start.absolute; second = plain_shown f.formatter p.end.absolute })
+
+-- Two ranges of amounts that are written in the same characters, and are readable, have equal starts and equal ends.
+abbrev pub AmountRangeTextTellsBothEnds : Type 0
+AmountRangeTextTellsBothEnds = (f : SignedFormat DecimalFormat) (style : RangeStyle) (p q : Pair) → IsReadableAmountRange f style.separator → ArePlain p →
+    ArePlain q → characters (plain_amounts f style p) ≡ characters (plain_amounts f style q) → p ≡ q
+
+-- Two texts of such ranges are equal only where the ranges are.
+abbrev pub EqualAmountRangeTextsTell : Type 0
+EqualAmountRangeTextsTell = (f : SignedFormat DecimalFormat) (style : RangeStyle) (p q : Pair) (one other : List ℕ) →
+    IsReadableAmountRange f style.separator → ArePlain p → ArePlain q
+    → one ≡ text_of (plain_amounts f style p) → other ≡ text_of (plain_amounts f style q) → one ≡ other → p ≡ q

@@ -1,5 +1,6 @@
-//! What the text of a range determines. The function does nothing: it is its contract.
+//! What the text of a range determines. The functions do nothing: each is its contract.
 
+ghost use Rattle.icu_ranges_readable.specs.RangeLaws.{AmountRangeTextTellsBothEnds, EqualAmountRangeTextsTell};
 ghost use Rattle.icu_ranges_readable.specs.RangeLaws.{EqualRangeTextsTell, RangeTextTellsBothEnds};
 
 /// If ranges are readable, equal texts mean equal ranges: both starts and both ends are equal, in
@@ -9,4 +10,12 @@ ghost use Rattle.icu_ranges_readable.specs.RangeLaws.{EqualRangeTextsTell, Range
 pub fn range_text_tells_both_ends()
     ensures characters { RangeTextTellsBothEnds }
     ensures texts { EqualRangeTextsTell }
+{}
+
+/// If ranges of money or of percents over a plain formatter are readable, equal texts mean equal
+/// ranges, as for plain numbers. What stands around both ends may be written once or twice.
+// promise: If readable, equal texts of amounts mean equal ends.
+pub fn amount_range_text_tells_both_ends()
+    ensures characters { AmountRangeTextTellsBothEnds }
+    ensures texts { EqualAmountRangeTextsTell }
 {}
