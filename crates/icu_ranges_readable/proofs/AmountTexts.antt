@@ -1,5 +1,5 @@
 -- Equal texts of readable ranges of amounts are of equal ranges.
-use Rattle.std.proofs.Common.{◌≡◌, ◌≢◌, inl, inr, ℕ, ◌<◌, arith, refl, sym, ap, ap₂, ◌∙◌, List, [], ◌∷◌, ◌++◌, append_assoc, append-nil}
+use Rattle.std.proofs.Common.{◌≡◌, ◌≢◌, inl, inr, ℕ, ◌<◌, refl, sym, ap, ◌∙◌, List, [], ◌++◌, append_assoc, append-nil}
 use Rattle.std.proofs.Common.{Bool, true, false, ◌&&◌, if◌then◌else◌}
 use Rattle.std.specs.Str.{chars}
 use Rattle.std.proofs.lemmas.Bool.{and_parts}
@@ -118,7 +118,8 @@ module _ (f : SignedFormat DecimalFormat) (separator : Separator) (h : IsReadabl
   -- two amounts, joined in either way, are a range
   both_ways : (p : Pair) (b : Bool) → is_shared f.patterns p.start.sign p.end.sign ≡ b →
       IsRange f.formatter (chars separator.text) apart around tells once once_unsigned p
-      (characters (if b then sign_framed f.patterns NoSign (joined separator (bare p.start) (bare p.end)) else joined separator (written p.start) (written p.end)))
+      (characters (if b then sign_framed f.patterns NoSign (joined separator (bare p.start) (bare p.end))
+      else joined separator (written p.start) (written p.end)))
   both_ways p true e =
       let j = are_joined separator (bare p.start) (bare p.end) [] (characters (bare p.start)) [] [] (characters (bare p.end)) []
       (characters-bare p.start) (characters-bare p.end) in

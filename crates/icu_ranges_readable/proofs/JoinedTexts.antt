@@ -1,5 +1,5 @@
 -- The characters of two texts with a separator between them.
-use Rattle.std.proofs.Common.{◌≡◌, ℕ, refl, sym, ap, ap₂, ◌∙◌, List, [], ◌∷◌, ◌++◌, append_assoc, append-nil, Bool, true, false, ◌&&◌}
+use Rattle.std.proofs.Common.{◌≡◌, ℕ, refl, sym, ap₂, ◌∙◌, List, ◌++◌, append_assoc, append-nil, Bool, true, false, ◌&&◌}
 use Rattle.std.proofs.Common.{if◌then◌else◌}
 use Rattle.std.specs.Str.{chars}
 use Rattle.writeable.specs.Events.{Event, characters, text_events, text_of}

@@ -1,5 +1,6 @@
 -- The characters of a number are digits, with separators in their gaps.
-use Rattle.std.proofs.Common.{◌≡◌, ◌≢◌, ◌⊎◌, inl, inr, ℕ, refl, sym, ap, ap₂, ◌∙◌, subst, List, [], ◌∷◌, ◌++◌, append_assoc, append-nil, map}
+use Rattle.std.proofs.Common.{◌≡◌, ◌≢◌, ◌⊎◌, inl, inr, ℕ, refl, sym, ap, ◌∙◌, subst}
+use Rattle.std.proofs.Common.{List, [], ◌∷◌, ◌++◌, append_assoc, append-nil, map}
 use Rattle.std.specs.Str.{chars}
 use Rattle.fixed_decimal.specs.Unsigned.{Unsigned, IsUnsigned, fraction}
 use Rattle.writeable.specs.Events.{characters}

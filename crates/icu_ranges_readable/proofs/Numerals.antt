@@ -1,8 +1,8 @@
 -- Texts of digits with separators in their gaps: what stands behind such a text determines where it ends.
 -- Induction on the digits from the left. Where one text ends and the other goes on, what stands behind the first would be a separator with
 -- a digit behind it.
-use Rattle.std.proofs.Common.{◌≡◌, ◌≢◌, ◌⊎◌, inl, inr, ℕ, refl, sym, ap, ap₂, ◌∙◌, subst, List, [], ◌∷◌, ◌++◌, append_assoc}
-use Rattle.icu_decimal.proofs.Runs.{Every, Begins, every_after, begins_every, split_run}
+use Rattle.std.proofs.Common.{◌≡◌, ◌≢◌, ◌⊎◌, inl, inr, ℕ, refl, sym, ap₂, ◌∙◌, subst, List, [], ◌∷◌, ◌++◌, append_assoc}
+use Rattle.icu_decimal.proofs.Runs.{Every, Begins, every_after, split_run}
 
 -- digits, in front of some of which a separator stands
 pub data Tail : Type 0 where

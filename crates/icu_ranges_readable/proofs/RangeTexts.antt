@@ -1,5 +1,5 @@
 -- Equal texts of readable ranges are of equal ranges.
-use Rattle.std.proofs.Common.{◌≡◌, ◌≢◌, inl, inr, ℕ, ◌<◌, zero, arith, refl, sym, ap, ap₂, ◌∙◌, List, [], ◌∷◌, ◌++◌, Bool, true, false}
+use Rattle.std.proofs.Common.{◌≡◌, ◌≢◌, inl, inr, ◌<◌, refl, sym, ◌∙◌, List, Bool, true, false}
 use Rattle.std.proofs.Common.{if◌then◌else◌}
 use Rattle.std.specs.Str.{chars}
 use Rattle.fixed_decimal.specs.declared.signs.Sign.{Sign}

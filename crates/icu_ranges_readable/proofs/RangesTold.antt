@@ -1,7 +1,7 @@
 -- Ranges of two numbers with signs: equal characters are of equal ranges.
 -- A range is its start alone, or both numbers in the surroundings of their signs with the separator between them, or both in the
 -- surroundings of no sign, which are written once.
-use Rattle.std.proofs.Common.{◌≡◌, ◌≢◌, ◌⊎◌, inl, inr, ℕ, refl, sym, ap, ap₂, ◌∙◌, List, [], ◌∷◌, ◌++◌, Bool, true, false}
+use Rattle.std.proofs.Common.{◌≡◌, ◌≢◌, ◌⊎◌, inl, inr, ℕ, refl, sym, ap₂, ◌∙◌, List, [], ◌++◌, Bool, true, false}
 use Rattle.fixed_decimal.specs.declared.signs.Sign.{Sign}
 use Rattle.fixed_decimal.specs.declared.signs.Sign.TheVariants.{Negative, Positive, None as NoSign}
 use Rattle.fixed_decimal.specs.Unsigned.{Unsigned, IsUnsigned}

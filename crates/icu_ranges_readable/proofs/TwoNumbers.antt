@@ -1,9 +1,8 @@
 -- Texts with two numbers, each between surroundings: what their characters determine.
 -- The surroundings of a sign are any texts without a digit, of which that before a number tells the sign. So the same holds for plain
 -- numbers with their affixes and for amounts with what stands around them.
-use Rattle.std.proofs.Common.{◌≡◌, ◌≢◌, ◌⊎◌, inl, inr, ℕ, ◌+◌, zero, suc, ◌<◌, arith, refl, sym, ap, ap₂, ◌∙◌, subst, List, [], ◌∷◌, ◌++◌}
-use Rattle.std.proofs.Common.{append_assoc, append-nil, Bool, true, false, ◌==◌, not, if◌then◌else◌}
-use Rattle.std.specs.Str.{chars}
+use Rattle.std.proofs.Common.{◌≡◌, ◌≢◌, inl, inr, ℕ, ◌<◌, arith, sym, ap, ◌∙◌, subst, List, [], ◌++◌}
+use Rattle.std.proofs.Common.{Bool, true, false}
 use Rattle.std.proofs.lemmas.List.{append_cancel_left}
 use Rattle.fixed_decimal.specs.declared.signs.Sign.{Sign}
 use Rattle.fixed_decimal.specs.declared.signs.Sign.TheVariants.{None as NoSign}
@@ -177,4 +176,19 @@ module _ (f : DecimalFormat) (separator : List ℕ) (h : IsApart f separator) wh
         let nothing = inks-append (spaces after) [] in
         let same : inks (between_signs s back next t) ≡ inks (spaces before ++ (separator ++ (spaces after ++ []))) = ap inks e in
         let some = k.some t signed in
-        absurd (omega (arith, here, more, rest, last, there, end, nothing, same, some, inks-spaces back, inks-spaces next, inks-spaces before, inks-spaces after))
+        absurd (omega (
+          arith,
+          here,
+          more,
+          rest,
+          last,
+          there,
+          end,
+          nothing,
+          same,
+          some,
+          inks-spaces back,
+          inks-spaces next,
+          inks-spaces before,
+          inks-spaces after,
+        ))

@@ -1,5 +1,5 @@
 -- Tests of the characters of texts.
-use Rattle.std.specs.Prelude.{ℕ, Bool, true, false, not, ◌==◌, ◌&&◌, ◌||◌, List, [], ◌∷◌}
+use Rattle.std.specs.Prelude.{ℕ, Bool, false, not, ◌==◌, ◌&&◌, ◌||◌, List, [], ◌∷◌}
 use Rattle.std.specs.Str.{chars}
 use Rattle.icu_decimal_symbols.specs.Symbols.{SymbolTexts}
 
