@@ -46,7 +46,7 @@ use ranges::{has_range, note_of_no_ranges, run_ranges};
 use read_tables::read_tables;
 use running::run_formed;
 use std::alloc::AllocError;
-use std::io::Write;
+use std::io::{ErrorKind, Write};
 use std::process::ExitCode;
 use std::{env, str};
 use streams::status_of_output;
@@ -77,6 +77,7 @@ impl From<AllocError> for Failure {
 fn words_given(rt: &HostRuntime) -> Result<Vec<String>, Failure> {
     let given = match env::args(rt) {
         Ok(given) => given,
+        Err(error) if error.kind() == ErrorKind::OutOfMemory => return Err(Failure::OutOfMemory),
         Err(_) => return Err(Failure::Words),
     };
     match given.collect(rt.alloc()) {

@@ -102,20 +102,32 @@ fn settings_of<'a>(locale: DataLocale, place: Place<'a>) -> Result<Settings<'a>,
     }
 }
 
-/// Opens the form of a place.
-fn open_form(
+/// Adds the form of a place to these.
+fn push_form<'a>(
+    forms: &mut Vec<PlaceForm<'a>>,
+    place: Place<'a>,
+    form: Form,
+) -> Result<(), Failure> {
+    match forms.push(PlaceForm { place, form }) {
+        Ok(()) => Ok(()),
+        Err(_) => Err(Failure::OutOfMemory),
+    }
+}
+
+/// Opens the form of a place, and adds it to these.
+fn open_form<'a>(
     rt: &HostRuntime,
     file: TablesFile<'_>,
     locale: DataLocale,
-    place: Place<'_>,
-) -> Result<Form, Failure> {
+    place: Place<'a>,
+    forms: &mut Vec<PlaceForm<'a>>,
+) -> Result<(), Failure> {
     let settings = settings_of(locale, place)?;
-    let form = match Form::of(rt.alloc(), &settings, file.bytes) {
-        Ok(form) => form,
+    match Form::of(rt.alloc(), &settings, file.bytes) {
+        Ok(form) => push_form(forms, place, form)?,
         Err(error) => return Err(failure_of_place(rt, file, &settings, place, error)),
-    };
-    reject_system(rt, file, &settings, place)?;
-    Ok(form)
+    }
+    reject_system(rt, file, &settings, place)
 }
 
 /// Opens the forms of the places of a message that have a form of their own.
@@ -131,10 +143,7 @@ pub(crate) fn open_forms<'a>(
             continue;
         };
         if !is_opened(&forms, place) {
-            let form = open_form(rt, file, locale, place)?;
-            if forms.push(PlaceForm { place, form }).is_err() {
-                return Err(Failure::OutOfMemory);
-            }
+            open_form(rt, file, locale, place, &mut forms)?;
         }
     }
     Ok(forms)
