@@ -88,52 +88,7 @@ writes '1.2K\n' --scale 0.01 --style short 123456
 writes '$12.34\n' --scale 0.01 --currency USD 1234.5
 writes '50%\n5%\n' --percent --scale 1 50 5
 writes '0.1\n' --scale 100 --fraction 1 0.00125
-# messages
-files='{n, plural, =0{no files} one{# file} other{# files}}'
-lines 0 '0\n1\n2\n' 'no files\n1 file\n2 files\n' '' --message "$files"
-writes '1.2M views\n1M views\n1 view\n' --style short --message '{n, plural, one{# view} other{# views}}' 1234567 999999 1
-writes '1.00 files\n' --fraction 2 --message '{n, plural, one{# file} other{# files}}' 1
-writes 'exactly\n2.00 files\n' --fraction 2 --message '{n, plural, =1{exactly} other{# files}}' 1.0 2
-writes '1%\none\n' --percent --message '{n, plural, =1{one} other{#}}' 0.01 1
-writes 'pay $1.00s\n' --currency USD --message '{n, plural, one{pay #} other{pay #s}}' 1
-writes '1 euro is 1\n' --skeleton 'currency/EUR unit-width-full-name precision-integer' --message '{n, plural, one{# is 1} other{# are}}' 1
-writes 'one\nelse\n' --message '{n, select, 1{one} other{else}}' 1 2
-lines 0 'who,sent\nAna,1\n"Ben, C.",12\n' 'Ana sent 1 file\nBen, C. sent 12 files\n' '' \
-    --csv --header --field sent --message "{who} sent $files"
-lines 0 'Ana 1\nBen 2000\n' 'Ana: 1; Ana 1\nBen: 2,000; Ben 2000\n' '' --field 2 --message '{f1}: {n}; {f1} {f2}'
-lines 0 '3 1000\n1 5\n' '1,000 of 3 files\n5 of 1 file\n' '' --field 2 --message "{n} of {f1, plural, one{# file} other{# files}}"
-lines 0 '1 2\n' '1\n2\n' '' --field - --message '{n}'
-lines 0 '1\x002\x00' '1!\x002!\x00' '' -z --message '{n}!'
-lines 0 '\xef\xbb\xbf7\n' '7\n' '' --message '{n}'
-lines 2 'Ana 1\nBen x\nCy 3\n' 'Ana 1\n' 'locnum: line 2, field 2: x: not a decimal' --field 2 --message '{f1} {n}'
-lines 2 'Ana 1\nBen x\nCy 3\n' 'Ana 1\nCy 3\n' 'locnum: line 2, field 2: x: not a decimal' --field 2 --invalid fail --message '{f1} {n}'
-lines 0 'Ana 1\nBen x\nCy 3\n' 'Ana 1\nCy 3\n' '' --field 2 --invalid ignore --message '{f1} {n}'
-lines 2 'Ana 1\n' '' 'locnum: line 1, field 2: no field f3 for the message' --field 2 --message '{f3} {n}'
-lines 2 'a b\nAna 1\n' '' 'locnum: line 2, field 2 (b): no field A for the message' --header --field b --message '{A} {n}'
-lines 2 'x 1\n' '' 'locnum: line 1, field 2: x: not a decimal' --field 2 --message '{f1, plural, other{#}} {n}'
-lines 1 'a,b\n"1' '' 'locnum: line 2: a quote without an end' --csv --header --message '{n}'
-catalogue=$(mktemp)
-printf '{"@@locale":"en","files":"{n, plural, one{# file} other{# files}}","@files":{"description":"how many"}}' >"$catalogue"
-writes '1 file\n2 files\n' --messages "$catalogue" --id files 1 2
-rejects "locnum: $catalogue: no message file" --messages "$catalogue" --id file
-printf '{"files":"{n, plural, one{x}}"}' >"$catalogue"
-rejects "locnum: $catalogue: the message \`files\`: the choice that ends at byte 18 has no \`other\`" --messages "$catalogue" --id files
-printf '{"files":1}' >"$catalogue"
-rejects "locnum: $catalogue: the value of \`files\` isn't a text" --messages "$catalogue" --id files
-printf '[]' >"$catalogue"
-rejects "locnum: $catalogue: the catalogue isn't a JSON object" --messages "$catalogue" --id files
-printf '{"files":"\xff"}' >"$catalogue"
-rejects "locnum: $catalogue: not UTF-8" --messages "$catalogue" --id files
-rm "$catalogue"
-rejects "locnum: $catalogue: No such file or directory" --messages "$catalogue" --id files
-rejects 'locnum: --message: a key is due at byte 12' --message '{n, plural, uno{x} other{}}'
-rejects 'locnum: --message: the text ends within an argument, at byte 2' --message '{n'
-rejects "locnum: a message's number has the form of the other options: {n}, and not {n, number}" --message '{n, number}'
-rejects 'locnum: en has no ordinal rules, by which the message picks' --message '{n, selectordinal, one{#st} other{#th}}'
-rejects 'locnum: --messages and --id: only together' --id a
-rejects 'locnum: --message: not with --messages and --id' --message a --id b
-rejects 'locnum: --explain: not with a message' --message a --explain
-rejects 'locnum: --padding: not with a message' --message a --padding 3
+source "$(dirname "$0")/locnum_messages.sh"
 
 # number skeletons
 writes '1,234.56789\n' --skeleton '' 1234.5678901

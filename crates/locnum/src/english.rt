@@ -1,7 +1,7 @@
 //! What the program knows without a file of tables: the text of `tables/english.json`.
 
 /// English numbers in full, short and long; dollars, euros, pounds and yen, in full and short;
-/// percents, and the units percent and permille.
+/// percents, and the units percent and permille; ranges, and rules of ordinal numbers.
 pub(crate) const ENGLISH: &str = "{
 \"symbols\": [{\"locale\": \"en\", \"minus\": [\"-\", \"\"], \"plus\": [\"+\", \"\"], \"decimal\": \".\", \"group\": \",\", \"numsys\": \"latn\", \"sizes\": [3, 3, 1]},
  {\"locale\": \"en-US\", \"minus\": [\"-\", \"\"], \"plus\": [\"+\", \"\"], \"decimal\": \".\", \"group\": \",\", \"numsys\": \"latn\", \"sizes\": [3, 3, 1]}],
@@ -12,6 +12,8 @@ pub(crate) const ENGLISH: &str = "{
  {\"locale\": \"en-US\", \"patterns\": [[3, 3, {\"other\": \"{0}K\"}], [6, 6, {\"other\": \"{0}M\"}], [9, 9, {\"other\": \"{0}B\"}], [12, 12, {\"other\": \"{0}T\"}]]}],
 \"long\": [{\"locale\": \"en\", \"patterns\": [[3, 3, {\"other\": \"{0} thousand\"}], [6, 6, {\"other\": \"{0} million\"}], [9, 9, {\"other\": \"{0} billion\"}], [12, 12, {\"other\": \"{0} trillion\"}]]},
  {\"locale\": \"en-US\", \"patterns\": [[3, 3, {\"other\": \"{0} thousand\"}], [6, 6, {\"other\": \"{0} million\"}], [9, 9, {\"other\": \"{0} billion\"}], [12, 12, {\"other\": \"{0} trillion\"}]]}],
+\"ordinals\": [{\"locale\": \"en\", \"rules\": [[\"one\", \"n % 10 = 1 and n % 100 != 11\"], [\"two\", \"n % 10 = 2 and n % 100 != 12\"], [\"few\", \"n % 10 = 3 and n % 100 != 13\"]]},
+ {\"locale\": \"en-US\", \"rules\": [[\"one\", \"n % 10 = 1 and n % 100 != 11\"], [\"two\", \"n % 10 = 2 and n % 100 != 12\"], [\"few\", \"n % 10 = 3 and n % 100 != 13\"]]}],
 \"currencies\": [{\"locale\": \"en\", \"standard\": \"¤#,##0.00\", \"accounting\": \"¤#,##0.00;(¤#,##0.00)\", \"minus\": \"-\", \"plus\": \"+\", \"names\": {\"other\": \"{0} {1}\"}},
  {\"locale\": \"en-US\", \"standard\": \"¤#,##0.00\", \"accounting\": \"¤#,##0.00;(¤#,##0.00)\", \"minus\": \"-\", \"plus\": \"+\", \"names\": {\"other\": \"{0} {1}\"}}],
 \"currency_compact\": [{\"locale\": \"en\", \"patterns\": [[3, 3, {\"other\": \"¤0K\"}], [6, 6, {\"other\": \"¤0M\"}], [9, 9, {\"other\": \"¤0B\"}], [12, 12, {\"other\": \"¤0T\"}]]},

@@ -15,10 +15,12 @@ mod lacks;
 mod listed;
 mod lone_locale;
 mod message_arguments;
+mod message_forms;
 mod message_given;
 mod message_lines;
 mod message_rules;
 mod message_run;
+mod message_wanted;
 mod mistakes;
 mod near;
 mod options;
@@ -44,12 +46,15 @@ use ranges::{has_range, note_of_no_ranges, run_ranges};
 use read_tables::read_tables;
 use running::run_formed;
 use std::alloc::AllocError;
-use std::io::Write;
+use std::io::{ErrorKind, Write};
 use std::process::ExitCode;
 use std::{env, str};
 use streams::status_of_output;
 use tables::{ListResult, TablesFile, list, note_of_failure, note_of_system};
 use words::{marked, numbers_given};
+
+/// What a note begins with.
+const START: &[u8] = b"locnum: ";
 
 /// Why the program ends early.
 #[derive(Clone, Copy)]
@@ -72,6 +77,7 @@ impl From<AllocError> for Failure {
 fn words_given(rt: &HostRuntime) -> Result<Vec<String>, Failure> {
     let given = match env::args(rt) {
         Ok(given) => given,
+        Err(error) if error.kind() == ErrorKind::OutOfMemory => return Err(Failure::OutOfMemory),
         Err(_) => return Err(Failure::Words),
     };
     match given.collect(rt.alloc()) {
@@ -86,9 +92,10 @@ fn put_note(rt: &HostRuntime, note: &[u8]) -> Failure {
     Failure::Reported
 }
 
-/// Why there is no form by the tables; it is reported.
+/// Why there is no form by the tables; it is reported in a note that begins with these bytes.
 fn failure_of(
     rt: &HostRuntime,
+    start: &[u8],
     settings: &Settings<'_>,
     file: TablesFile<'_>,
     error: StartError,
@@ -96,7 +103,7 @@ fn failure_of(
     if error == StartError::OutOfMemory {
         return Failure::OutOfMemory;
     }
-    match note_of_failure(rt.alloc(), file, settings, error) {
+    match note_of_failure(rt.alloc(), start, file, settings, error) {
         Ok(note) => put_note(rt, &note),
         Err(_) => Failure::OutOfMemory,
     }
@@ -147,7 +154,7 @@ fn run_ranges_by(
             let note = note_of_no_ranges(rt.alloc(), file, &settings)?;
             Err(put_note(rt, &note))
         }
-        Err(error) => Err(failure_of(rt, &settings, file, error)),
+        Err(error) => Err(failure_of(rt, START, &settings, file, error)),
     }
 }
 
@@ -161,9 +168,9 @@ fn run_by_tables(
     let options = in_locale(options, only_locale(rt, matches, file));
     let form = match Form::of(rt.alloc(), &options.settings, file.bytes) {
         Ok(form) => form,
-        Err(error) => return Err(failure_of(rt, &options.settings, file, error)),
+        Err(error) => return Err(failure_of(rt, START, &options.settings, file, error)),
     };
-    if let Some(note) = note_of_system(rt.alloc(), file, &options.settings)? {
+    if let Some(note) = note_of_system(rt.alloc(), START, file, &options.settings)? {
         return Err(put_note(rt, &note));
     }
     let numbers = numbers_given(rt.alloc(), matches)?;

@@ -1,14 +1,12 @@
 //! The arguments of a message: the number that it is written for, and the fields beside it.
 
-use icu_message::{Argument, ArgumentKind, ArgumentValue, Message, NamedKind, ShownNumber};
+use crate::message_wanted::{NUMBER, WantedArgument, WantedValue};
+use icu_message::{Argument, ArgumentValue, ShownNumber};
 use locnum_lines::FoundNumber;
-use number_forms::{Form, TextError};
+use number_forms::TextError;
 use number_messages::shown_by;
 use std::alloc::{AllocError, Global};
 use std::str;
-
-/// The name of the number that a message is written for.
-const NUMBER: &[u8] = b"n";
 
 /// A record: its fields, and the names of their columns.
 #[derive(Clone, Copy)]
@@ -46,90 +44,78 @@ fn field_of_column<'a>(fields: Fields<'a>, name: &[u8]) -> Option<&'a [u8]> {
 }
 
 /// The text of a name: of `n` that of the number, else that of a column or of a field.
-fn text_of<'a>(number: &'a [u8], fields: Fields<'a>, name: &[u8]) -> Option<&'a [u8]> {
+fn text_of<'a>(number: &'a [u8], fields: Fields<'a>, name: &str) -> Option<&'a [u8]> {
     if name == NUMBER {
         return Some(number);
     }
+    let name = name.as_bytes();
     match field_of_column(fields, name) {
         Some(text) => Some(text),
         None => field_of_number(fields, name),
     }
 }
 
-/// Whether an argument is given as a number.
-fn is_number(name: &[u8], kind: ArgumentKind) -> bool {
-    match kind {
-        ArgumentKind::Number => true,
-        ArgumentKind::Any => name == NUMBER,
-        ArgumentKind::Text => false,
-    }
-}
-
-/// The numbers among the arguments, in the order of their names.
+/// The numbers among the arguments that are wanted, in their order.
 pub(crate) fn numbers_shown<'a>(
     alloc: Global,
-    form: &Form,
-    message: &Message,
-    names: &[NamedKind],
+    wanted: &[WantedArgument<'_>],
     number: &'a [u8],
     fields: Fields<'a>,
 ) -> Result<Vec<ShownNumber>, NoNumber<'a>> {
     let mut numbers = Vec::new(alloc);
-    for named in names {
-        let name = message.word(named.name);
-        if !is_number(name, named.kind) {
+    for argument in wanted {
+        let (Some(form), Some(text)) = (
+            argument.value.form(),
+            text_of(number, fields, argument.name),
+        ) else {
             continue;
-        }
-        if let Some(text) = text_of(number, fields, name) {
-            let shown = match shown_by(alloc, form, text) {
-                Ok(shown) => shown,
-                Err(error) => return Err(NoNumber { text, error }),
-            };
-            if numbers.push(shown).is_err() {
-                let error = TextError::OutOfMemory;
-                return Err(NoNumber { text, error });
-            }
+        };
+        let shown = match shown_by(alloc, form, text) {
+            Ok(shown) => shown,
+            Err(error) => return Err(NoNumber { text, error }),
+        };
+        if numbers.push(shown).is_err() {
+            let error = TextError::OutOfMemory;
+            return Err(NoNumber { text, error });
         }
     }
     Ok(numbers)
 }
 
-/// The value of a name: the next number, or a text in UTF-8.
+/// What is given of an argument: a text in UTF-8, or the next number.
 fn value_of<'a>(
-    named: NamedKind,
-    name: &[u8],
+    wanted: WantedValue<'a>,
     text: &'a [u8],
     number: Option<&'a ShownNumber>,
 ) -> Option<ArgumentValue<'a>> {
-    if is_number(name, named.kind) {
-        return Some(ArgumentValue::Number(number?));
+    match wanted {
+        WantedValue::Text => Some(ArgumentValue::Text(str::from_utf8(text).ok()?)),
+        WantedValue::Number(_) => Some(ArgumentValue::Number(number?)),
+        WantedValue::Formatted(skeleton, _) => Some(ArgumentValue::Form(skeleton, number?)),
     }
-    Some(ArgumentValue::Text(str::from_utf8(text).ok()?))
 }
 
-/// The arguments of a message. A name that no field has isn't given, and neither is a text that
+/// The arguments that are wanted. A name that no field has isn't given, and neither is a text that
 /// isn't UTF-8.
 pub(crate) fn arguments<'a>(
     alloc: Global,
-    message: &'a Message,
-    names: &[NamedKind],
+    wanted: &[WantedArgument<'a>],
     numbers: &'a [ShownNumber],
     number: &'a [u8],
     fields: Fields<'a>,
 ) -> Result<Vec<Argument<'a>>, AllocError> {
     let mut given = Vec::new(alloc);
     let mut used: usize = 0;
-    for named in names {
-        let name = message.word(named.name);
+    for argument in wanted {
+        let WantedArgument { name, value } = *argument;
         let Some(text) = text_of(number, fields, name) else {
             continue;
         };
-        let value = value_of(*named, name, text, numbers.get(used));
-        if is_number(name, named.kind) {
-            used = used.saturating_add(1);
-        }
-        if let (Ok(name), Some(value)) = (str::from_utf8(name), value) {
+        if let Some(value) = value_of(value, text, numbers.get(used)) {
             given.push(Argument { name, value })?;
+        }
+        if value.form().is_some() {
+            used = used.saturating_add(1);
         }
     }
     Ok(given)

@@ -134,15 +134,3 @@ pub(crate) fn picks_by(message: &Message, kind: ChoiceKind) -> bool {
     }
     false
 }
-
-/// Rejects a message with a place that has a form of its own.
-pub(crate) fn without_forms(rt: &HostRuntime, message: &Message) -> Result<(), Failure> {
-    for piece in message.pieces() {
-        if let Piece::Formatted(_, _) = *piece {
-            let text = "locnum: a message's number has the form of the other options: \
-                {n}, and not {n, number}\n";
-            return Err(note(rt, String::from_str(rt.alloc(), text)));
-        }
-    }
-    Ok(())
-}

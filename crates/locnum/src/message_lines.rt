@@ -3,14 +3,15 @@
 use crate::explained::{put, read_line, reader, reported};
 use crate::explained_fields::{bytes_behind, read_record};
 use crate::message_arguments::{Fields, NoNumber, arguments, numbers_shown};
+use crate::message_wanted::WantedArgument;
 use crate::streams::Streams;
 use crate::words::{joined, nothing};
-use icu_message::{Message, NamedKind, WriteError};
+use icu_message::{Message, ShownNumber, WriteError};
 use icu_plurals::PluralRules;
 use locnum_lines::{
     FieldRange, FoundNumber, LineSettings, NumberFinder, Refusals, Report, RunError, Source,
 };
-use number_forms::{Form, TextError, push_reported};
+use number_forms::{TextError, push_reported};
 use std::alloc::{AllocError, Global};
 use std::io::Write;
 
@@ -19,14 +20,12 @@ use std::io::Write;
 pub(crate) struct Writer<'a> {
     /// The message.
     pub(crate) message: &'a Message,
-    /// Its names with their kinds.
-    pub(crate) names: &'a [NamedKind],
+    /// The arguments that it wants.
+    pub(crate) wanted: &'a [WantedArgument<'a>],
     /// Rules of cardinals.
     pub(crate) cardinal: &'a PluralRules,
     /// Rules of ordinals.
     pub(crate) ordinal: &'a PluralRules,
-    /// The form of numbers.
-    pub(crate) form: &'a Form,
     /// The byte behind a message.
     pub(crate) end: u8,
     /// What becomes of what is rejected.
@@ -125,11 +124,15 @@ impl Writer<'_> {
         streams: &mut Streams,
         found: &FoundNumber,
         fields: Fields<'_>,
-        numbers: &[icu_message::ShownNumber],
+        numbers: &[ShownNumber],
     ) -> Result<Report, RunError> {
         let alloc = rt.alloc();
-        let Writer { message, names, .. } = *self;
-        let Ok(given) = arguments(alloc, message, names, numbers, &found.text, fields) else {
+        let Writer {
+            message,
+            wanted,
+            ..
+        } = *self;
+        let Ok(given) = arguments(alloc, wanted, numbers, &found.text, fields) else {
             return Err(RunError::OutOfMemory);
         };
         let mut out = Vec::new(alloc);
@@ -156,8 +159,7 @@ impl Writer<'_> {
         fields: Fields<'_>,
     ) -> Result<Report, RunError> {
         let alloc = rt.alloc();
-        let Writer { message, names, .. } = *self;
-        match numbers_shown(alloc, self.form, message, names, &found.text, fields) {
+        match numbers_shown(alloc, self.wanted, &found.text, fields) {
             Ok(numbers) => self.write_given(rt, streams, found, fields, &numbers),
             Err(
                 NoNumber {

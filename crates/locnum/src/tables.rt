@@ -131,14 +131,16 @@ fn push_refused(
     }
 }
 
-/// The note that says why tables make no form: where they are at fault, or what they lack.
+/// The note that says why tables make no form: where they are at fault, or what they lack. It begins
+/// with these bytes.
 pub(crate) fn note_of_failure(
     alloc: Global,
+    start: &[u8],
     file: TablesFile<'_>,
     settings: &Settings<'_>,
     error: StartError,
 ) -> Result<Vec<u8>, AllocError> {
-    let mut note = Vec::from_slice(alloc, b"locnum: ")?;
+    let mut note = Vec::from_slice(alloc, start)?;
     if error != StartError::NoData {
         push_refused(alloc, file, error, &mut note)?;
         note.push(b'\n')?;
@@ -153,9 +155,10 @@ pub(crate) fn note_of_failure(
 }
 
 /// The note that says that the tables have no numbering system that is asked for; none where they
-/// have it, or none is asked for.
+/// have it, or none is asked for. It begins with these bytes.
 pub(crate) fn note_of_system(
     alloc: Global,
+    start: &[u8],
     file: TablesFile<'_>,
     settings: &Settings<'_>,
 ) -> Result<Option<Vec<u8>>, AllocError> {
@@ -169,7 +172,7 @@ pub(crate) fn note_of_system(
     if has_system(&tables, locale, system.as_str()) {
         return Ok(None);
     }
-    let mut note = Vec::from_slice(alloc, b"locnum: ")?;
+    let mut note = Vec::from_slice(alloc, start)?;
     push_no_system(alloc, &tables, locale, system, &mut note)?;
     note.push(b'\n')?;
     Ok(Some(note))
