@@ -104,9 +104,10 @@ def lines_of(job: Job) -> list[str]:
 class Locnum:
     """locnum, over the tables of one locale at a time."""
 
-    def __init__(self, program: pathlib.Path, tables: Json, folder: str) -> None:
+    def __init__(self, program: pathlib.Path, tables: Json, folder: str, keys: Sequence[str] = KEYS) -> None:
         self.program = program
         self.tables = tables
+        self.keys = keys
         self.folder = pathlib.Path(folder)
         self.texts_of: dict[str, str] = {}
         self.by_locale: collections.defaultdict[str, dict[str, list[Json]]] = collections.defaultdict(dict)
@@ -119,7 +120,7 @@ class Locnum:
         """A copy of the tables of a locale."""
         if locale not in self.texts_of:
             common = {key: self.tables[key] for key in ("digits", "currency_digits")}
-            self.texts_of[locale] = json.dumps(common | {key: self.by_locale[locale].get(key, []) for key in KEYS})
+            self.texts_of[locale] = json.dumps(common | {key: self.by_locale[locale].get(key, []) for key in self.keys})
         tables: Json = json.loads(self.texts_of[locale])
         return tables
 

@@ -1,12 +1,15 @@
-// Formats decimals by ICU, for tests/icu_compare.py, tests/icu_names.py and tests/icu_money.py. A line `= LOCALE SYSTEM
-// KIND` chooses the formatter, `-` the locale's own system; each other line is a decimal, and is answered by a line. What
-// ICU has no data for is root's. The kinds:
-//   plain                                        every written fraction digit
-//   short, long                                  ICU's own rounding
-//   percent                                      a hundred times the decimal, every written digit of it
+// Formats decimals by ICU, for tests/icu_compare.py, tests/icu_names.py, tests/icu_money.py and tests/icu_ranges.py. A line `=
+// LOCALE SYSTEM KIND` chooses the formatter, `-` the locale's own system; each other line is a decimal or a range `START..END`,
+// and is answered by a line. Where both ends of a range are equal for ICU, it is a single value. What ICU has no data for is
+// root's. The kinds:
+//   plain [PLACES]                               every written fraction digit, or so many
+//   short, long [PLACES]                         ICU's own rounding, or so many fraction digits
+//   percent [PLACES]                             a hundred times the decimal, every written digit of it, or so many places
 //   money CODE short|narrow|name [accounting]    the fraction digits of the currency
 //   money CODE compact                           ICU's own rounding, by the short patterns of money
 //   unit NAME long|short|narrow                  every written fraction digit
+// With `sign=WORD` behind the kind signs are shown always, never, except-zero or negative; else as usual, and always of
+// decimals with an explicit plus.
 // With the word --version it prints the versions of ICU and of its CLDR data, with --available the locales that it has;
 // with --likely each line is a name, and is answered by the canonical one with likely subtags.
 #include <algorithm>
@@ -19,6 +22,7 @@
 #include <unicode/currunit.h>
 #include <unicode/measunit.h>
 #include <unicode/numberformatter.h>
+#include <unicode/numberrangeformatter.h>
 #include <unicode/ulocdata.h>
 #include <unicode/unistr.h>
 #include <unicode/uversion.h>
@@ -26,11 +30,16 @@
 using namespace icu;
 using namespace icu::number;
 
-// what one line `=` chooses, and the formatters that its decimals have asked for so far
+// what of a decimal its formatter depends on: the fraction digits to be shown, and whether it has an explicit plus
+using Spelling = std::pair<int, bool>;
+
+// what one line `=` chooses, and the formatters that its decimals and ranges have asked for so far
 struct Choice {
     Locale locale;
     std::vector<std::string> kind;
-    std::map<std::pair<int, bool>, LocalizedNumberFormatter> formatters;
+    std::string signs;
+    std::map<Spelling, LocalizedNumberFormatter> formatters;
+    std::map<std::pair<Spelling, Spelling>, LocalizedNumberRangeFormatter> range_formatters;
 };
 
 static int print_versions() {
@@ -49,9 +58,13 @@ static Choice choice_of(const std::string &line, UErrorCode &status) {
     std::istringstream words(line.substr(2));
     std::string tag, system, word;
     words >> tag >> system;
-    Choice choice{Locale::forLanguageTag(tag, status), {}, {}};
+    Choice choice{Locale::forLanguageTag(tag, status), {}, {}, {}, {}};
     while (words >> word) {
-        choice.kind.push_back(word);
+        if (word.compare(0, 5, "sign=") == 0) {
+            choice.signs = word.substr(5);
+        } else {
+            choice.kind.push_back(word);
+        }
     }
     if (system != "-") {
         choice.locale.setUnicodeKeywordValue("nu", system, status);
@@ -65,20 +78,23 @@ static UNumberUnitWidth width_of(const std::string &word) {
                              : UNUM_UNIT_WIDTH_FULL_NAME;
 }
 
-static UNumberSignDisplay signs_of(bool always, bool accounting) {
-    return always ? (accounting ? UNUM_SIGN_ACCOUNTING_ALWAYS : UNUM_SIGN_ALWAYS)
-                  : (accounting ? UNUM_SIGN_ACCOUNTING : UNUM_SIGN_AUTO);
+static UNumberSignDisplay signs_of(const std::string &word, bool accounting) {
+    return word == "always"        ? (accounting ? UNUM_SIGN_ACCOUNTING_ALWAYS : UNUM_SIGN_ALWAYS)
+           : word == "never"       ? UNUM_SIGN_NEVER
+           : word == "except-zero" ? (accounting ? UNUM_SIGN_ACCOUNTING_EXCEPT_ZERO : UNUM_SIGN_EXCEPT_ZERO)
+           : word == "negative"    ? (accounting ? UNUM_SIGN_ACCOUNTING_NEGATIVE : UNUM_SIGN_NEGATIVE)
+                                   : (accounting ? UNUM_SIGN_ACCOUNTING : UNUM_SIGN_AUTO);
 }
 
-static LocalizedNumberFormatter formatter_of(const Choice &choice, int places, bool signs_always, UErrorCode &status) {
+static UnlocalizedNumberFormatter formatter_of(const Choice &choice, const Spelling &spelling, UErrorCode &status) {
     const std::vector<std::string> &kind = choice.kind;
-    auto formatter = NumberFormatter::withLocale(choice.locale).sign(signs_of(signs_always, kind.size() > 3));
+    const auto [places, has_plus] = spelling;
+    auto formatter = NumberFormatter::with().sign(signs_of(has_plus ? "always" : choice.signs, kind.size() > 3));
     if (kind[0] == "plain") {
         return formatter.precision(Precision::fixedFraction(places));
     }
     if (kind[0] == "percent") {
-        return formatter.unit(NoUnit::percent()).scale(Scale::powerOfTen(2)).precision(
-            Precision::fixedFraction(std::max(places - 2, 0)));
+        return formatter.unit(NoUnit::percent()).scale(Scale::powerOfTen(2)).precision(Precision::fixedFraction(places));
     }
     if (kind[0] == "money") {
         CurrencyUnit unit(UnicodeString::fromUTF8(kind[1]).getTerminatedBuffer(), status);
@@ -91,21 +107,66 @@ static LocalizedNumberFormatter formatter_of(const Choice &choice, int places, b
         return formatter.unit(MeasureUnit::forIdentifier(kind[1], status)).unitWidth(width_of(kind[2])).precision(
             Precision::fixedFraction(places));
     }
-    return formatter.notation(kind[0] == "short" ? Notation::compactShort() : Notation::compactLong());
+    auto compact = formatter.notation(kind[0] == "short" ? Notation::compactShort() : Notation::compactLong());
+    return kind.size() > 1 ? compact.precision(Precision::fixedFraction(places)) : compact;
+}
+
+// The fraction digits that the kind asks for: so many, those that are written, or its own for each decimal.
+static int places_of(const std::vector<std::string> &kind, const std::string &decimal) {
+    size_t point = decimal.find('.');
+    int written = point == std::string::npos ? 0 : static_cast<int>(decimal.size() - point - 1);
+    if (kind[0] == "unit") {
+        return written;
+    }
+    if (kind.size() > 1 && kind[0] != "money") {
+        return std::stoi(kind[1]);
+    }
+    return kind[0] == "plain" ? written : kind[0] == "percent" ? std::max(written - 2, 0) : 0;
+}
+
+static Spelling spelling_of(const Choice &choice, const std::string &decimal) {
+    return {places_of(choice.kind, decimal), decimal[0] == '+'};
+}
+
+static LocalizedNumberRangeFormatter range_formatter_of(const Choice &choice, const Spelling &first, const Spelling &second,
+                                                        UErrorCode &status) {
+    auto formatter = NumberRangeFormatter::withLocale(choice.locale).identityFallback(UNUM_IDENTITY_FALLBACK_SINGLE_VALUE);
+    if (first == second) {
+        return formatter.numberFormatterBoth(formatter_of(choice, first, status));
+    }
+    return formatter.numberFormatterFirst(formatter_of(choice, first, status))
+        .numberFormatterSecond(formatter_of(choice, second, status));
+}
+
+static std::string formatted_range(Choice &choice, const std::string &start, const std::string &end, UErrorCode &status) {
+    auto spellings = std::make_pair(spelling_of(choice, start), spelling_of(choice, end));
+    auto found = choice.range_formatters.find(spellings);
+    if (found == choice.range_formatters.end()) {
+        auto made = range_formatter_of(choice, spellings.first, spellings.second, status);
+        found = choice.range_formatters.emplace(spellings, std::move(made)).first;
+    }
+    Formattable first(StringPiece(start), status), second(StringPiece(end), status);
+    std::string text;
+    found->second.formatFormattableRange(first, second, status).toString(status).toUTF8String(text);
+    return text;
 }
 
 static std::string formatted(Choice &choice, const std::string &decimal, UErrorCode &status) {
-    size_t point = decimal.find('.');
-    int places = point == std::string::npos ? 0 : static_cast<int>(decimal.size() - point - 1);
-    bool signs_always = decimal[0] == '+';
-    auto found = choice.formatters.find({places, signs_always});
+    Spelling spelling = spelling_of(choice, decimal);
+    auto found = choice.formatters.find(spelling);
     if (found == choice.formatters.end()) {
-        auto made = formatter_of(choice, places, signs_always, status);
-        found = choice.formatters.emplace(std::make_pair(places, signs_always), std::move(made)).first;
+        auto made = formatter_of(choice, spelling, status).locale(choice.locale);
+        found = choice.formatters.emplace(spelling, std::move(made)).first;
     }
     std::string text;
     found->second.formatDecimal(decimal, status).toString(status).toUTF8String(text);
     return text;
+}
+
+static std::string answer_of(Choice &choice, const std::string &line, UErrorCode &status) {
+    size_t between = line.find("..");
+    return between == std::string::npos ? formatted(choice, line, status)
+                                        : formatted_range(choice, line.substr(0, between), line.substr(between + 2), status);
 }
 
 static int print_available() {
@@ -141,7 +202,7 @@ int main(int count, char **words) {
         if (line.compare(0, 2, "= ") == 0) {
             choice = choice_of(line, status);
         } else {
-            std::cout << formatted(choice, line, status) << '\n';
+            std::cout << answer_of(choice, line, status) << '\n';
         }
         if (U_FAILURE(status)) {
             std::cerr << u_errorName(status) << ": " << line << '\n';

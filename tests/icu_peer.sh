@@ -1,5 +1,5 @@
-# How tests/icu.sh and tests/icu_names.sh find ICU. They set `release`, the folder of a CLDR release, and source this file, which
-# leaves in $PEER a command that runs tests/icu_peer.cpp, and in $folder a folder of their own; or ends the script.
+# How tests/icu.sh, tests/icu_names.sh and tests/icu_ranges.sh find ICU. They set `release`, the folder of a CLDR release, and
+# source this file, which leaves in $PEER a command that runs tests/icu_peer.cpp, and in $folder a folder of their own; or ends the script.
 # shellcheck shell=bash
 source "$(dirname "${BASH_SOURCE[0]}")/judging.sh"
 folder=$(mktemp -d)
