@@ -21,12 +21,12 @@ use Rattle.icu_ranges.specs.Joined.{joined}
 use Rattle.icu_ranges.specs.Ranges.{is_single}
 use Rattle.icu_ranges.specs.Separator.{Separator}
 use Rattle.icu_ranges_readable.specs.RangeLaws.{AmountRangeTextTellsBothEnds, ArePlain, EqualAmountRangeTextsTell, Number, Pair, plain_amounts}
-use Rattle.icu_ranges_readable.specs.ReadableRange.{IsReadableAmountRange}
+use Rattle.icu_ranges_readable.specs.ReadableRange.{IsApart, IsReadableAmountRange}
 use Rattle.icu_ranges_readable.proofs.JoinedTexts.{are_joined, single_same}
 use Rattle.icu_ranges_readable.proofs.MarksFound.{ink_begins, ink_count, no_space_begins}
 use Rattle.icu_ranges_readable.proofs.RangesTold.{IsRange, alone, ranges_tell, singles}
 use Rattle.icu_ranges_readable.proofs.Spaces.{IsInk, inks, spaces}
-use Rattle.icu_ranges_readable.proofs.TwoNumbers.{IsApart, TellsSigns}
+use Rattle.icu_ranges_readable.proofs.TwoNumbers.{TellsSigns}
 
 -- a sign that is none
 no_sign : (s : Sign) → has_no_sign s ≡ true → s ≡ NoSign
@@ -48,12 +48,7 @@ in_common a b c d i j = simp (append_assoc, append-nil)
 module _ (f : SignedFormat DecimalFormat) (separator : Separator) (h : IsReadableAmountRange f separator) where
   -- the separator stands apart from numbers
   apart : IsApart f.formatter (chars separator.text)
-  apart = record {
-    readable = h.numbers_readable;
-    space_free = h.space_free;
-    separator_free = h.separator_free;
-    marked = h.marked;
-  }
+  apart = h.apart
 
   -- what stands around numbers of each sign
   abbrev around : Sign → Surroundings

@@ -8,3 +8,4 @@ pub mod RangesTold
 pub mod JoinedTexts
 pub mod RangeTexts
 pub mod AmountTexts
+pub mod AmountFronts

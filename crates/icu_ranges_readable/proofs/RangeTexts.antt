@@ -15,12 +15,12 @@ use Rattle.icu_ranges.specs.Joined.{joined}
 use Rattle.icu_ranges.specs.Ranges.{is_single}
 use Rattle.icu_ranges.specs.Separator.{Separator}
 use Rattle.icu_ranges_readable.specs.RangeLaws.{ArePlain, EqualRangeTextsTell, Number, Pair, RangeTextTellsBothEnds, plain_range}
-use Rattle.icu_ranges_readable.specs.ReadableRange.{IsReadableRange}
+use Rattle.icu_ranges_readable.specs.ReadableRange.{IsApart, IsReadableRange}
 use Rattle.icu_ranges_readable.proofs.JoinedTexts.{are_joined, single_same}
 use Rattle.icu_ranges_readable.proofs.MarksFound.{ink_begins, ink_count, ink_some}
 use Rattle.icu_ranges_readable.proofs.RangesTold.{IsRange, alone, ranges_tell, singles}
 use Rattle.icu_ranges_readable.proofs.Spaces.{IsInk, inks}
-use Rattle.icu_ranges_readable.proofs.TwoNumbers.{IsApart, TellsSigns}
+use Rattle.icu_ranges_readable.proofs.TwoNumbers.{TellsSigns}
 
 -- nothing is written once for both numbers
 abbrev never : Sign → Sign → Bool
@@ -32,12 +32,7 @@ never_once s t e = cc
 module _ (f : DecimalFormat) (separator : Separator) (h : IsReadableRange f separator) where
   -- the separator stands apart from numbers
   apart : IsApart f (chars separator.text)
-  apart = record {
-    readable = h.numbers_readable;
-    space_free = h.space_free;
-    separator_free = h.separator_free;
-    marked = h.marked;
-  }
+  apart = h.apart
 
   -- the affixes of each sign
   abbrev around : Sign → Surroundings
@@ -69,8 +64,8 @@ module _ (f : DecimalFormat) (separator : Separator) (h : IsReadableRange f sepa
 
   tells : TellsSigns f (chars separator.text) apart around
   tells = record {
-    before_free = λ s. (are_others f (around s) (h.numbers_readable.affixes_free s)).before;
-    after_free = λ s. (are_others f (around s) (h.numbers_readable.affixes_free s)).after;
+    before_free = λ s. (are_others f (around s) (h.apart.readable.affixes_free s)).before;
+    after_free = λ s. (are_others f (around s) (h.apart.readable.affixes_free s)).after;
     tells = front_tells;
     begins = front_begins;
     some = front_some;

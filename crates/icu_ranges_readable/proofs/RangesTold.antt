@@ -10,7 +10,8 @@ use Rattle.icu_decimal_readable.specs.Readable.{Surroundings}
 use Rattle.icu_ranges_readable.specs.RangeLaws.{ArePlain, Number, Pair}
 use Rattle.icu_ranges_readable.proofs.MarksFound.{clashing}
 use Rattle.icu_ranges_readable.proofs.Spaces.{spaces}
-use Rattle.icu_ranges_readable.proofs.TwoNumbers.{IsApart, TellsSigns, between_signs, digits, is_middle, one_is_not_two, one_tells, sign_stands}
+use Rattle.icu_ranges_readable.specs.ReadableRange.{IsApart}
+use Rattle.icu_ranges_readable.proofs.TwoNumbers.{TellsSigns, between_signs, digits, is_middle, one_is_not_two, one_tells, sign_stands}
 use Rattle.icu_ranges_readable.proofs.TwoNumbers.{signs_tell, two_tell}
 
 -- a number of a sign and its digits

@@ -12,8 +12,9 @@ use Rattle.icu_decimal.specs.Decimal.{DecimalFormat, unsigned_events}
 use Rattle.icu_decimal.proofs.DigitsDistinct.{IsDigitOf, IsOther}
 use Rattle.icu_decimal.proofs.Runs.{Begins, Every, every-append, every_after, split_run}
 use Rattle.icu_decimal.proofs.TextsDistinct.{text_tells}
-use Rattle.icu_decimal_readable.specs.Readable.{IsReadable, Surroundings}
-use Rattle.icu_ranges_readable.specs.Characters.{has, has_any, has_mark}
+use Rattle.icu_decimal_readable.specs.Readable.{Surroundings}
+use Rattle.icu_ranges_readable.specs.Characters.{has}
+use Rattle.icu_ranges_readable.specs.ReadableRange.{IsApart}
 use Rattle.icu_ranges_readable.proofs.MarksFound.{IsMarkIn, clashing, found_has, mark_found, none_found, not_contained}
 use Rattle.icu_ranges_readable.proofs.NumberShape.{IsSeparatorOf, is_number}
 use Rattle.icu_ranges_readable.proofs.Numerals.{Closes, numeral_tells, text}
@@ -23,13 +24,6 @@ use Rattle.icu_ranges_readable.proofs.Spaces.{Has, IsInk, has_after, has_before,
 -- no character is both
 other_digits : (f : DecimalFormat) (c : ℕ) → IsDigitOf f c → IsOther f c → ⊥
 other_digits f c is other = other is
-
--- A separator between the numbers of a readable formatter: it has no digit, a space is none, and it has a mark.
-pub record IsApart (f : DecimalFormat) (separator : List ℕ) : Type 0 where
-  pub readable : IsReadable f.symbols.strings f.digits
-  pub space_free : has 32 f.digits ≡ false
-  pub separator_free : has_any f.digits separator ≡ false
-  pub marked : has_mark f.symbols.strings separator ≡ true
 
 module _ (f : DecimalFormat) (separator : List ℕ) (h : IsApart f separator) where
   -- the digits of a number

@@ -1,5 +1,5 @@
 -- Tests of the characters of texts.
-use Rattle.std.specs.Prelude.{ℕ, Bool, false, not, ◌==◌, ◌&&◌, ◌||◌, List, [], ◌∷◌}
+use Rattle.std.specs.Prelude.{ℕ, Bool, false, not, ◌==◌, ◌&&◌, ◌||◌, List, [], ◌∷◌, if◌then◌else◌}
 use Rattle.std.specs.Str.{chars}
 use Rattle.icu_decimal_symbols.specs.Symbols.{SymbolTexts}
 
@@ -22,6 +22,11 @@ begins_with_ink (c ∷ cs) = not (c == 32)
 abbrev pub begins_with_space : List ℕ → Bool
 begins_with_space [] = false
 begins_with_space (c ∷ cs) = c == 32
+
+-- the characters in front of the first such character
+abbrev pub until : ℕ → List ℕ → List ℕ
+until c [] = []
+until c (x ∷ xs) = if x == c then [] else x ∷ until c xs
 
 -- a character isn't a space, and stands in neither separator of numbers
 abbrev pub is_mark : SymbolTexts → ℕ → Bool

@@ -1,5 +1,5 @@
 -- Ranges whose texts determine both numbers.
-use Rattle.std.specs.Prelude.{◌≡◌, ◌≢◌, true, false}
+use Rattle.std.specs.Prelude.{◌≡◌, ◌≢◌, ℕ, List, true, false}
 use Rattle.std.specs.Str.{chars}
 use Rattle.fixed_decimal.specs.declared.signs.Sign.TheVariants.{Negative, Positive, None as NoSign}
 use Rattle.icu_decimal.specs.Decimal.{DecimalFormat}
@@ -18,31 +18,37 @@ pub record SignsStandInFront (texts : SymbolTexts) : Type 0 where
   pub plus_begins : begins_with_ink (chars texts.plus_sign_prefix) ≡ true
   pub differ : chars texts.minus_sign_prefix ≢ chars texts.plus_sign_prefix
 
--- Ranges with this separator are readable: the numbers are, no space and no character of the separator is a digit, the separator
--- has a mark, and signs stand in front.
-pub record IsReadableRange (f : DecimalFormat) (separator : Separator) : Type 0 where
-  pub numbers_readable : IsReadable f.symbols.strings f.digits
+-- A separator of ranges stands apart from numbers: these are readable, no space and no character of the separator is a digit, and the
+-- separator has a mark.
+pub record IsApart (f : DecimalFormat) (separator : List ℕ) : Type 0 where
+  pub readable : IsReadable f.symbols.strings f.digits
   pub space_free : has 32 f.digits ≡ false
-  pub separator_free : has_any f.digits (chars separator.text) ≡ false
-  pub marked : has_mark f.symbols.strings (chars separator.text) ≡ true
+  pub separator_free : has_any f.digits separator ≡ false
+  pub marked : has_mark f.symbols.strings separator ≡ true
+
+-- Ranges with this separator are readable: it stands apart from numbers, and signs stand in front.
+pub record IsReadableRange (f : DecimalFormat) (separator : Separator) : Type 0 where
+  pub apart : IsApart f (chars separator.text)
   pub signs_in_front : SignsStandInFront f.symbols.strings
 
--- what stands before an amount tells its sign, also behind a separator with or without a space: something stands before a minus and
--- a plus, it doesn't begin with a space, and what stands before the three signs differs
-pub record SignsStandBefore (patterns : Signed) : Type 0 where
-  pub none_begins : begins_with_space (money_surroundings patterns NoSign).before ≡ false
-  pub minus_begins : begins_with_ink (money_surroundings patterns Negative).before ≡ true
-  pub plus_begins : begins_with_ink (money_surroundings patterns Positive).before ≡ true
-  pub minus_differs : (money_surroundings patterns NoSign).before ≢ (money_surroundings patterns Negative).before
-  pub plus_differs : (money_surroundings patterns NoSign).before ≢ (money_surroundings patterns Positive).before
-  pub differ : (money_surroundings patterns Negative).before ≢ (money_surroundings patterns Positive).before
+-- texts before numbers without a sign, with a minus and with a plus tell the sign, also behind a separator with or without a space:
+-- those of minus and plus have a character, none begins with a space, and they differ
+pub record TellSigns (none minus plus : List ℕ) : Type 0 where
+  pub none_begins : begins_with_space none ≡ false
+  pub minus_begins : begins_with_ink minus ≡ true
+  pub plus_begins : begins_with_ink plus ≡ true
+  pub minus_differs : none ≢ minus
+  pub plus_differs : none ≢ plus
+  pub differ : minus ≢ plus
 
--- Ranges of amounts with this separator are readable: as ranges of numbers are, where no digit stands around amounts, and what stands
+-- what stands before an amount tells its sign
+abbrev pub SignsStandBefore : Signed → Type 0
+SignsStandBefore patterns =
+    TellSigns (money_surroundings patterns NoSign).before (money_surroundings patterns Negative).before (money_surroundings patterns Positive).before
+
+-- Ranges of amounts with this separator are readable: it stands apart from numbers, no digit stands around amounts, and what stands
 -- before them tells their sign.
 pub record IsReadableAmountRange (f : SignedFormat DecimalFormat) (separator : Separator) : Type 0 where
-  pub numbers_readable : IsReadable f.formatter.symbols.strings f.formatter.digits
-  pub space_free : has 32 f.formatter.digits ≡ false
-  pub separator_free : has_any f.formatter.digits (chars separator.text) ≡ false
-  pub marked : has_mark f.formatter.symbols.strings (chars separator.text) ≡ true
+  pub apart : IsApart f.formatter (chars separator.text)
   pub around_free : HasNoDigitAround f.formatter.digits f.patterns
   pub signs_before : SignsStandBefore f.patterns

@@ -1,9 +1,11 @@
 //! Tests of the characters of texts.
 
-ghost use Rattle.std.specs.Prelude.{◌≡◌, chars};
-ghost use Rattle.icu_ranges_readable.specs.Characters.{begins_with_ink, has, has_any, has_mark, is_mark};
+ghost use Rattle.std.specs.Prelude.{◌≡◌, IfOk, chars};
+ghost use Rattle.std.specs.String.{string_bytes};
+ghost use Rattle.icu_ranges_readable.specs.Characters.{begins_with_ink, begins_with_space, has, has_any, has_mark, is_mark, until};
 
 use icu_decimal_symbols::DecimalSymbols;
+use std::alloc::{AllocError, Global};
 
 /// Whether a character is one of some.
 pub(crate) fn is_among(character: char, characters: &[char]) -> bool
@@ -49,6 +51,30 @@ pub(crate) fn begins_with_ink(text: &str) -> bool
         Some(character) => character != ' ',
         None => false,
     }
+}
+
+/// Whether the first character of a text is a space.
+pub(crate) fn begins_with_space(text: &str) -> bool
+    ensures { result ≡ begins_with_space (chars text.now) }
+{
+    match text.chars().next() {
+        Some(character) => character == ' ',
+        None => false,
+    }
+}
+
+/// The characters of a text in front of the first such character.
+pub(crate) fn text_until(alloc: Global, character: char, text: &str) -> Result<String, AllocError>
+    ensures { IfOk result (λ t. chars (string_bytes t) ≡ until character (chars text.now)) }
+{
+    let mut front = String::new(alloc);
+    for found in text.chars() {
+        if found == character {
+            return Ok(front);
+        }
+        front.push(found)?;
+    }
+    Ok(front)
 }
 
 /// Whether a character isn't a space, and stands in neither separator of numbers.

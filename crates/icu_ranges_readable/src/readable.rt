@@ -1,7 +1,7 @@
 //! Whether ranges of plain numbers are readable.
 
 ghost use Rattle.std.specs.Prelude.{◌≡◌, ◌↔◌, IsTrue, chars};
-ghost use Rattle.icu_ranges_readable.specs.ReadableRange.{IsReadableRange, SignsStandInFront};
+ghost use Rattle.icu_ranges_readable.specs.ReadableRange.{IsApart, IsReadableRange, SignsStandInFront};
 
 use crate::characters::{begins_with_ink, has_any, has_mark, is_among};
 use icu_decimal::DecimalFormatter;
@@ -9,7 +9,7 @@ use icu_decimal_symbols::DecimalSymbols;
 use icu_ranges::RangePattern;
 
 /// Whether two texts have the same characters.
-fn has_same_characters(one: &str, other: &str) -> bool
+pub(crate) fn has_same_characters(one: &str, other: &str) -> bool
     ensures { IsTrue result ↔ (chars one.now ≡ chars other.now) }
 {
     one == other
@@ -25,6 +25,19 @@ fn do_signs_stand_in_front(symbols: &DecimalSymbols) -> bool
         return false;
     }
     !has_same_characters(minus, plus)
+}
+
+/// Whether a separator of ranges stands apart from the numbers of a readable formatter.
+pub(crate) fn is_apart(formatter: &DecimalFormatter, separator: &str) -> bool
+    ensures { IsTrue result ↔ IsApart formatter.now (chars separator.now) }
+{
+    if !formatter.is_readable() || is_among(' ', formatter.digits()) {
+        return false;
+    }
+    if has_any(formatter.digits(), separator) {
+        return false;
+    }
+    has_mark(formatter.symbols(), separator)
 }
 
 /// Whether the texts of ranges with this pattern determine both numbers, over a plain formatter: in
@@ -44,13 +57,8 @@ fn do_signs_stand_in_front(symbols: &DecimalSymbols) -> bool
 pub fn are_ranges_readable(formatter: &DecimalFormatter, pattern: &RangePattern) -> bool
     ensures { IsTrue result ↔ IsReadableRange formatter.now pattern.now }
 {
-    let symbols = formatter.symbols();
-    let separator = pattern.separator();
-    if !formatter.is_readable() || is_among(' ', formatter.digits()) {
+    if !is_apart(formatter, pattern.separator()) {
         return false;
     }
-    if has_any(formatter.digits(), separator) || !has_mark(symbols, separator) {
-        return false;
-    }
-    do_signs_stand_in_front(symbols)
+    do_signs_stand_in_front(formatter.symbols())
 }

@@ -6,13 +6,14 @@ use crate::locales::{fallback_of, plain, tables};
 use crate::written::{RangeWriter, asked};
 use icu_dimension_data::{AffixTexts, CldrPattern, SignedPatterns};
 use icu_ranges::{CurrencyRangeFormatter, PercentRangeFormatter, RangePattern};
+use icu_ranges_readable::are_amount_ranges_readable;
 use icu_tables::Tables;
 use rows::Documents;
 use std::alloc::Global;
 use writeable::ASCII_DIGITS;
 
 /// A locale, a pattern of CLDR, and the symbol of a currency, which percents have none of.
-type Amounts<'a> = (&'a str, &'a str, &'a str);
+pub(crate) type Amounts<'a> = (&'a str, &'a str, &'a str);
 
 /// The patterns of the three signs.
 fn patterns(alloc: Global, (_, text, currency): Amounts<'_>) -> Result<SignedPatterns, Fault> {
@@ -69,6 +70,23 @@ fn percents(
     let numbers = plain(alloc, tables, amounts.0)?;
     let formatter = PercentRangeFormatter::new(numbers, patterns, pattern, fallback_of(amounts.0));
     asked_of(alloc, &formatter, call, (start, end))
+}
+
+/// Whether ranges of amounts are readable.
+pub(crate) fn readable(
+    alloc: Global,
+    documents: &Documents,
+    amounts: Amounts<'_>,
+    pattern: &str,
+) -> Result<String, Fault> {
+    let tables = tables(alloc, documents)?;
+    let patterns = patterns(alloc, amounts)?;
+    let pattern = RangePattern::parse(alloc, pattern)?;
+    let numbers = plain(alloc, &tables, amounts.0)?;
+    let Ok(answer) = are_amount_ranges_readable(alloc, &numbers, &patterns, &pattern) else {
+        return Err(Fault::OutOfMemory);
+    };
+    Ok(String::from_str(alloc, if answer { "yes" } else { "no" })?)
 }
 
 /// What a call of money or percents answers.

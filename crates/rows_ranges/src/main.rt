@@ -42,6 +42,10 @@ fn returned(
         ("", [locale, pattern]) if call == "are_ranges_readable" => {
             locales::readable(alloc, documents, locale, pattern)
         }
+        ("", [locale, text, symbol, pattern]) if call == "are_amount_ranges_readable" => {
+            let amounts = (locale.as_str(), text.as_str(), symbol.as_str());
+            amounts::readable(alloc, documents, amounts, pattern)
+        }
         ("PluralRanges", _) => plural::returned(alloc, documents, call, arguments),
         ("PercentRangeFormatter" | "CurrencyRangeFormatter", _) => {
             amounts::returned(alloc, documents, (kind, call), arguments)
