@@ -23,7 +23,8 @@ loop-found-preserved c = (
   tt,
   tt,
   goes_on c.args.character c.args.text.now _ (string_bytes c.loop-found.front) _ (string_bytes c.push.new.self) c.in-Some.found
-      c.loop-found.invariant.2 c.in-Some.ensures.steps.0 c.if-found-character.false (IsUtf8-string_bytes c.loop-found.front) (IsUtf8-string_bytes c.push.new.self)
+      c.loop-found.invariant.2 c.in-Some.ensures.steps.0 c.if-found-character.false
+      (IsUtf8-string_bytes c.loop-found.front) (IsUtf8-string_bytes c.push.new.self)
       c.in_ok-push.ensures.bytes,
 )
 
