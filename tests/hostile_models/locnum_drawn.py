@@ -13,7 +13,7 @@ from hostile_models.running import Word
 LISTS = ["1", "2", "2-", "1-3", "-2", "-", "1,3", "4-,1", "3,3", "18446744073709551615", "2-9999999999", "007"]
 # Texts of options, those first that are accepted. Tables are of a file that isn't there.
 GOOD: dict[str, list[str]] = {
-    "tables": [], "locale": ["en", "en", "EN", "en_us.UTF-8", "env", "de", "x" * 63], "system": ["latn", "latn", "arab"],
+    "tables": [], "locale": ["en", "en", "EN", "en_us.UTF-8", "env", "de", "x" * 63, "x" * 63], "system": ["latn", "latn", "arab"],
     "style": ["plain", "short", "long"], "grouping": STRATEGIES, "fraction": ["0", "0", "2", "999", "0..3", "1..1", "007"],
     "significant": ["1", "2", "3", "999", "1..3", "2..2", "007", "1..999"], "round": ROUNDING_MODES,
     "increment": ["0.05", "0.50", ".5", "2.5", "25", "1", "0002", "1000", "50.0", "0.25", "1" + "0" * 999, "." + "0" * 998 + "2"],
@@ -58,7 +58,8 @@ PUT_IN: list[list[Word]] = [
     ["--width=narrow", "--currency=EUR", "--style=short"], ["--currency=USD", "--style=short"],
     ["--percent", "--percent"], ["--percent", "--permille"], ["--permille", "--scale=1"], ["-z", "--zero-terminated"],
     ["--fraction=2", "--significant=2"], ["--increment=0.05", "--currency=EUR", "--cash"], ["--cash", "--fraction=1"],
-    ["--style=short", "--significant=3"], ["--increment", "5", "--style=long"], ["--round=up"], ["--percent", "--round=floor"],
+    ["--style=short", "--significant=3"], ["--increment", "5", "--style=long"], ["--increment=25", "--style=short"],
+    ["--locale", "x" * 63], ["--round=up"], ["--percent", "--round=floor"],
     ["--currency=USD", "--round=half-up"], ["--style=short", "--currency=USD", "--round", "down"], ["--si=auto"], ["--in=5"],
     ["--skeleton", "K"], ["--skeleton=%x100", "--percent"], ["--skeleton=.00", "--system=latn"], ["--skeleton=.00", "--explain"],
     ["--percent", "--scale=1"], ["--integer=4", "--currency=USD"], ["--style=long", "--integer=2"], ["--integer=3", "--round=up"],
