@@ -1,14 +1,14 @@
 -- Equal texts of readable ranges of amounts are of equal ranges.
-use Rattle.std.proofs.Common.{◌≡◌, ◌≢◌, inl, inr, ℕ, ◌<◌, refl, sym, ap, ◌∙◌, List, [], ◌++◌, append_assoc, append-nil}
+use Rattle.std.proofs.Common.{◌≡◌, inl, inr, ℕ, refl, sym, ap, ◌∙◌, List, [], ◌++◌, append_assoc, append-nil}
 use Rattle.std.proofs.Common.{Bool, true, false, ◌&&◌, if◌then◌else◌}
 use Rattle.std.specs.Str.{chars}
 use Rattle.std.proofs.lemmas.Bool.{and_parts}
+use Rattle.fixed_decimal.specs.declared.signed.Decimal.{Decimal}
 use Rattle.fixed_decimal.specs.declared.signs.Sign.{Sign}
 use Rattle.fixed_decimal.specs.declared.signs.Sign.TheVariants.{Negative, Positive, None as NoSign}
 use Rattle.writeable.specs.Events.{Event, characters}
 use Rattle.icu_decimal.specs.Decimal.{DecimalFormat, unsigned_events}
-use Rattle.icu_decimal.proofs.Runs.{Begins}
-use Rattle.icu_decimal.proofs.TextsDistinct.{are_others, same_characters}
+use Rattle.icu_decimal.proofs.TextsDistinct.{same_characters}
 use Rattle.icu_decimal_readable.specs.Readable.{Surroundings}
 use Rattle.icu_dimension.specs.Money.{SignedFormat, sign_framed}
 use Rattle.icu_dimension.specs.MoneyReadable.{money_surroundings}
@@ -18,15 +18,15 @@ use Rattle.icu_ranges.specs.declared.options.RangeIdentityFallback.{RangeIdentit
 use Rattle.icu_ranges.specs.Around.{around_joined, around_none, has_no_sign, is_shared}
 use Rattle.icu_ranges.specs.Edges.{is_long}
 use Rattle.icu_ranges.specs.Joined.{joined}
+use Rattle.icu_ranges.specs.Order.{Ends}
 use Rattle.icu_ranges.specs.Ranges.{is_single}
 use Rattle.icu_ranges.specs.Separator.{Separator}
-use Rattle.icu_ranges_readable.specs.RangeLaws.{AmountRangeTextTellsBothEnds, ArePlain, EqualAmountRangeTextsTell, Number, Pair, plain_amounts}
+use Rattle.icu_ranges_readable.specs.RangeLaws.{AmountRangeTextTellsBothEnds, AreDecimals, EqualAmountRangeTextsTell, plain_amounts}
 use Rattle.icu_ranges_readable.specs.ReadableRange.{IsApart, IsReadableAmountRange}
 use Rattle.icu_ranges_readable.proofs.JoinedTexts.{are_joined, single_same}
-use Rattle.icu_ranges_readable.proofs.MarksFound.{ink_begins, ink_count, no_space_begins}
 use Rattle.icu_ranges_readable.proofs.RangesTold.{IsRange, alone, ranges_tell, singles}
-use Rattle.icu_ranges_readable.proofs.Spaces.{IsInk, inks, spaces}
-use Rattle.icu_ranges_readable.proofs.TwoNumbers.{TellsSigns}
+use Rattle.icu_ranges_readable.proofs.Spaces.{spaces}
+use Rattle.icu_ranges_readable.proofs.TwoNumbers.{TellsSigns, tells_signs}
 
 -- a sign that is none
 no_sign : (s : Sign) → has_no_sign s ≡ true → s ≡ NoSign
@@ -54,38 +54,9 @@ module _ (f : SignedFormat DecimalFormat) (separator : Separator) (h : IsReadabl
   abbrev around : Sign → Surroundings
   around s = money_surroundings f.patterns s
 
-  -- the text before a number tells its sign
-  front_tells : (s t : Sign) → (around s).before ≡ (around t).before → s ≡ t
-  front_tells NoSign NoSign e = refl
-  front_tells NoSign Negative e = absurd (h.signs_before.minus_differs e)
-  front_tells NoSign Positive e = absurd (h.signs_before.plus_differs e)
-  front_tells Negative NoSign e = absurd (h.signs_before.minus_differs (sym e))
-  front_tells Negative Negative e = refl
-  front_tells Negative Positive e = absurd (h.signs_before.differ e)
-  front_tells Positive NoSign e = absurd (h.signs_before.plus_differs (sym e))
-  front_tells Positive Negative e = absurd (h.signs_before.differ (sym e))
-  front_tells Positive Positive e = refl
-
-  -- it begins with no space
-  front_begins : (s : Sign) → Begins IsInk (around s).before
-  front_begins NoSign = no_space_begins (around NoSign).before h.signs_before.none_begins
-  front_begins Negative = ink_begins (around Negative).before h.signs_before.minus_begins
-  front_begins Positive = ink_begins (around Positive).before h.signs_before.plus_begins
-
-  -- a sign is seen
-  front_some : (s : Sign) → s ≢ NoSign → 0 < inks (around s).before
-  front_some NoSign signed = absurd (signed refl)
-  front_some Negative signed = ink_count (around Negative).before h.signs_before.minus_begins
-  front_some Positive signed = ink_count (around Positive).before h.signs_before.plus_begins
-
+  -- what stands before a number tells its sign
   tells : TellsSigns f.formatter (chars separator.text) apart around
-  tells = record {
-    before_free = λ s. (are_others f.formatter (around s) (h.around_free s)).before;
-    after_free = λ s. (are_others f.formatter (around s) (h.around_free s)).after;
-    tells = front_tells;
-    begins = front_begins;
-    some = front_some;
-  }
+  tells = tells_signs f.formatter (chars separator.text) apart around h.around_free h.signs_before
 
   -- what is written once
   abbrev once : Sign → Sign → Bool
@@ -95,23 +66,23 @@ module _ (f : SignedFormat DecimalFormat) (separator : Separator) (h : IsReadabl
   once_unsigned s t e = shared_unsigned f.patterns s t e
 
   -- a number without what stands around it
-  abbrev bare : Number → List Event
+  abbrev bare : Decimal → List Event
   bare n = unsigned_events f.formatter n.absolute
 
   -- what is written for an amount
-  abbrev written : Number → List Event
+  abbrev written : Decimal → List Event
   written n = sign_framed f.patterns n.sign (bare n)
 
   -- its characters
-  characters-alone : (n : Number) → characters (written n) ≡ alone f.formatter (chars separator.text) apart around tells once once_unsigned n
+  characters-alone : (n : Decimal) → characters (written n) ≡ alone f.formatter (chars separator.text) apart around tells once once_unsigned n
   characters-alone n = characters-framed f.patterns n.sign (bare n)
 
   -- the characters of a number alone, with nothing around it
-  characters-bare : (n : Number) → characters (bare n) ≡ [] ++ (characters (bare n) ++ [])
+  characters-bare : (n : Decimal) → characters (bare n) ≡ [] ++ (characters (bare n) ++ [])
   characters-bare n = sym (append-nil (characters (bare n)))
 
   -- two amounts, joined in either way, are a range
-  both_ways : (p : Pair) (b : Bool) → is_shared f.patterns p.start.sign p.end.sign ≡ b →
+  both_ways : (p : Ends) (b : Bool) → is_shared f.patterns p.start.sign p.end.sign ≡ b →
       IsRange f.formatter (chars separator.text) apart around tells once once_unsigned p
       (characters (if b then sign_framed f.patterns NoSign (joined separator (bare p.start) (bare p.end))
       else joined separator (written p.start) (written p.end)))
@@ -134,7 +105,7 @@ module _ (f : SignedFormat DecimalFormat) (separator : Separator) (h : IsReadabl
       inr (inl (record { back = j.back; next = j.next; apart = e; all = j.all }))
 
   -- what is written for two amounts is a range of them
-  is_range : (fallback : RangeIdentityFallback) (p : Pair) → ArePlain p →
+  is_range : (fallback : RangeIdentityFallback) (p : Ends) → AreDecimals p →
       IsRange f.formatter (chars separator.text) apart around tells once once_unsigned p
       (characters (plain_amounts f (record { separator = separator; fallback = fallback }) p))
   is_range fallback p hp =

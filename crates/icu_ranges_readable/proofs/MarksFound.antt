@@ -1,13 +1,13 @@
 -- What the tests of characters find.
-use Rattle.std.proofs.Common.{◌≡◌, ◌≢◌, ◌⊎◌, inl, inr, ◌==◌, ◌||◌, not, refl, sym, ap, subst}
+use Rattle.std.proofs.Common.{◌≡◌, ◌⊎◌, inl, inr, ◌==◌, ◌||◌, not, refl, sym, ap, subst}
 use Rattle.std.proofs.Common.{ℕ, zero, suc, ◌<◌, arith, List, [], ◌∷◌}
 use Rattle.std.proofs.Common.{length, slice_index_or, Bool, true, false, Contains, ◌+◌, if◌then◌else◌}
 use Rattle.std.specs.Str.{chars}
 use Rattle.std.proofs.lemmas.Bool.{and_parts, eq-eqb, eqb-true}
 use Rattle.icu_decimal.proofs.Runs.{Begins, Every, every_of_all}
 use Rattle.icu_decimal_symbols.specs.Symbols.{SymbolTexts}
-use Rattle.icu_ranges_readable.specs.Characters.{begins_with_ink, begins_with_space, has, has_any, has_mark, is_mark}
-use Rattle.icu_ranges_readable.proofs.Spaces.{Has, IsInk, inks}
+use Rattle.icu_ranges_readable.specs.Characters.{begins_visibly, begins_with_space, has, has_any, has_mark, is_mark}
+use Rattle.icu_ranges_readable.proofs.Spaces.{Has, IsNoSpace, no_spaces}
 
 -- nothing is both
 pub clashing : (b : Bool) → b ≡ true → b ≡ false → ⊥
@@ -77,7 +77,7 @@ none_found cs xs e = every_of_all (λ x. ¬ (Contains cs x)) xs (λ k d l is.
 pub record IsMarkIn (texts : SymbolTexts) (xs : List ℕ) : Type 0 where
   pub mark : ℕ
   pub stands : Has mark xs
-  pub is_ink : IsInk mark
+  pub is_no_space : IsNoSpace mark
   pub no_decimal : has mark (chars texts.decimal_separator) ≡ false
   pub no_grouping : has mark (chars texts.grouping_separator) ≡ false
 
@@ -93,7 +93,7 @@ mark_found texts (c ∷ cs) e = go (either (is_mark texts c) (has_mark texts cs)
         record {
           mark = c;
           stands = inl refl;
-          is_ink = λ space. clashing (c == 32) (eq-eqb c 32 space) (not_true (c == 32) parts.0);
+          is_no_space = λ space. clashing (c == 32) (eq-eqb c 32 space) (not_true (c == 32) parts.0);
           no_decimal = not_true (has c (chars texts.decimal_separator)) separators.0;
           no_grouping = not_true (has c (chars texts.grouping_separator)) separators.1;
         }
@@ -102,28 +102,23 @@ mark_found texts (c ∷ cs) e = go (either (is_mark texts c) (has_mark texts cs)
         record {
           mark = m.mark;
           stands = inr m.stands;
-          is_ink = m.is_ink;
+          is_no_space = m.is_no_space;
           no_decimal = m.no_decimal;
           no_grouping = m.no_grouping;
         }
 
 -- a text that begins with no space
-pub ink_begins : (xs : List ℕ) → begins_with_ink xs ≡ true → Begins IsInk xs
-ink_begins [] e = tt
-ink_begins (c ∷ cs) e = λ space. clashing (c == 32) (eq-eqb c 32 space) (not_true (c == 32) e)
+pub visible_begins : (xs : List ℕ) → begins_visibly xs ≡ true → Begins IsNoSpace xs
+visible_begins [] e = tt
+visible_begins (c ∷ cs) e = λ space. clashing (c == 32) (eq-eqb c 32 space) (not_true (c == 32) e)
 
 -- one that doesn't begin with a space
-pub no_space_begins : (xs : List ℕ) → begins_with_space xs ≡ false → Begins IsInk xs
+pub no_space_begins : (xs : List ℕ) → begins_with_space xs ≡ false → Begins IsNoSpace xs
 no_space_begins [] e = tt
 no_space_begins (c ∷ cs) e = λ space. clashing (c == 32) (eq-eqb c 32 space) e
 
--- it isn't empty
-pub ink_some : (xs : List ℕ) → begins_with_ink xs ≡ true → [] ≢ xs
-ink_some [] e = cc
-ink_some (c ∷ cs) e = λ nothing. cc
-
 -- it has a character that isn't a space
-pub ink_count : (xs : List ℕ) → begins_with_ink xs ≡ true → 0 < inks xs
-ink_count [] e = cc
-ink_count (c ∷ cs) e =
-    elim (c == 32) as (λ b. not b ≡ true → 0 < (if b then 0 else 1) + inks cs) [ true ↦ (λ none. cc) | false ↦ (λ some. omega arith) ] e
+pub visible_count : (xs : List ℕ) → begins_visibly xs ≡ true → 0 < no_spaces xs
+visible_count [] e = cc
+visible_count (c ∷ cs) e =
+    elim (c == 32) as (λ b. not b ≡ true → 0 < (if b then 0 else 1) + no_spaces cs) [ true ↦ (λ none. cc) | false ↦ (λ some. omega arith) ] e

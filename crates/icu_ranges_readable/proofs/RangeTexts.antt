@@ -1,26 +1,25 @@
 -- Equal texts of readable ranges are of equal ranges.
-use Rattle.std.proofs.Common.{◌≡◌, ◌≢◌, inl, inr, ◌<◌, refl, sym, ◌∙◌, List, Bool, true, false}
+use Rattle.std.proofs.Common.{◌≡◌, inl, inr, refl, sym, ◌∙◌, List, Bool, true, false}
 use Rattle.std.proofs.Common.{if◌then◌else◌}
 use Rattle.std.specs.Str.{chars}
+use Rattle.fixed_decimal.specs.declared.signed.Decimal.{Decimal}
 use Rattle.fixed_decimal.specs.declared.signs.Sign.{Sign}
-use Rattle.fixed_decimal.specs.declared.signs.Sign.TheVariants.{Negative, Positive, None as NoSign}
+use Rattle.fixed_decimal.specs.declared.signs.Sign.TheVariants.{None as NoSign}
 use Rattle.writeable.specs.Events.{Event, characters}
 use Rattle.icu_decimal.specs.Decimal.{DecimalFormat, decimal_events, unsigned_events}
 use Rattle.icu_decimal.proofs.CharactersShown.{characters-signed}
-use Rattle.icu_decimal.proofs.Runs.{Begins}
-use Rattle.icu_decimal.proofs.TextsDistinct.{are_others, same_characters}
+use Rattle.icu_decimal.proofs.TextsDistinct.{same_characters}
 use Rattle.icu_decimal_readable.specs.Readable.{Surroundings, affixes}
 use Rattle.icu_ranges.specs.declared.options.RangeIdentityFallback.{RangeIdentityFallback}
 use Rattle.icu_ranges.specs.Joined.{joined}
+use Rattle.icu_ranges.specs.Order.{Ends}
 use Rattle.icu_ranges.specs.Ranges.{is_single}
 use Rattle.icu_ranges.specs.Separator.{Separator}
-use Rattle.icu_ranges_readable.specs.RangeLaws.{ArePlain, EqualRangeTextsTell, Number, Pair, RangeTextTellsBothEnds, plain_range}
+use Rattle.icu_ranges_readable.specs.RangeLaws.{AreDecimals, EqualRangeTextsTell, RangeTextTellsBothEnds, plain_range}
 use Rattle.icu_ranges_readable.specs.ReadableRange.{IsApart, IsReadableRange}
 use Rattle.icu_ranges_readable.proofs.JoinedTexts.{are_joined, single_same}
-use Rattle.icu_ranges_readable.proofs.MarksFound.{ink_begins, ink_count, ink_some}
 use Rattle.icu_ranges_readable.proofs.RangesTold.{IsRange, alone, ranges_tell, singles}
-use Rattle.icu_ranges_readable.proofs.Spaces.{IsInk, inks}
-use Rattle.icu_ranges_readable.proofs.TwoNumbers.{TellsSigns}
+use Rattle.icu_ranges_readable.proofs.TwoNumbers.{TellsSigns, tells_signs}
 
 -- nothing is written once for both numbers
 abbrev never : Sign → Sign → Bool
@@ -38,49 +37,20 @@ module _ (f : DecimalFormat) (separator : Separator) (h : IsReadableRange f sepa
   abbrev around : Sign → Surroundings
   around s = affixes f.symbols.strings s
 
-  -- the text before a number tells its sign
-  front_tells : (s t : Sign) → (around s).before ≡ (around t).before → s ≡ t
-  front_tells NoSign NoSign e = refl
-  front_tells NoSign Negative e = absurd (ink_some (chars f.symbols.strings.minus_sign_prefix) h.signs_in_front.minus_begins e)
-  front_tells NoSign Positive e = absurd (ink_some (chars f.symbols.strings.plus_sign_prefix) h.signs_in_front.plus_begins e)
-  front_tells Negative NoSign e = absurd (ink_some (chars f.symbols.strings.minus_sign_prefix) h.signs_in_front.minus_begins (sym e))
-  front_tells Negative Negative e = refl
-  front_tells Negative Positive e = absurd (h.signs_in_front.differ e)
-  front_tells Positive NoSign e = absurd (ink_some (chars f.symbols.strings.plus_sign_prefix) h.signs_in_front.plus_begins (sym e))
-  front_tells Positive Negative e = absurd (h.signs_in_front.differ (sym e))
-  front_tells Positive Positive e = refl
-
-  -- it begins with no space
-  front_begins : (s : Sign) → Begins IsInk (around s).before
-  front_begins NoSign = tt
-  front_begins Negative = ink_begins (chars f.symbols.strings.minus_sign_prefix) h.signs_in_front.minus_begins
-  front_begins Positive = ink_begins (chars f.symbols.strings.plus_sign_prefix) h.signs_in_front.plus_begins
-
-  -- a sign is seen
-  front_some : (s : Sign) → s ≢ NoSign → 0 < inks (around s).before
-  front_some NoSign signed = absurd (signed refl)
-  front_some Negative signed = ink_count (chars f.symbols.strings.minus_sign_prefix) h.signs_in_front.minus_begins
-  front_some Positive signed = ink_count (chars f.symbols.strings.plus_sign_prefix) h.signs_in_front.plus_begins
-
+  -- what stands before a number tells its sign
   tells : TellsSigns f (chars separator.text) apart around
-  tells = record {
-    before_free = λ s. (are_others f (around s) (h.apart.readable.affixes_free s)).before;
-    after_free = λ s. (are_others f (around s) (h.apart.readable.affixes_free s)).after;
-    tells = front_tells;
-    begins = front_begins;
-    some = front_some;
-  }
+  tells = tells_signs f (chars separator.text) apart around h.apart.readable.affixes_free h.signs_before
 
   -- what is written for a number
-  abbrev written : Number → List Event
+  abbrev written : Decimal → List Event
   written n = decimal_events f n.sign n.absolute
 
   -- the characters of a number
-  characters-alone : (n : Number) → characters (written n) ≡ alone f (chars separator.text) apart around tells never never_once n
+  characters-alone : (n : Decimal) → characters (written n) ≡ alone f (chars separator.text) apart around tells never never_once n
   characters-alone n = characters-signed f n.sign (unsigned_events f n.absolute)
 
   -- what is written for two numbers is a range of them
-  is_range : (fallback : RangeIdentityFallback) (p : Pair) → ArePlain p → IsRange f (chars separator.text) apart around tells never never_once p
+  is_range : (fallback : RangeIdentityFallback) (p : Ends) → AreDecimals p → IsRange f (chars separator.text) apart around tells never never_once p
       (characters (plain_range f (record { separator = separator; fallback = fallback }) p))
   is_range fallback p hp =
       go (is_single fallback (written p.start) (written p.end)) refl

@@ -2,12 +2,14 @@
 -- A range is its start alone, or both numbers in the surroundings of their signs with the separator between them, or both in the
 -- surroundings of no sign, which are written once.
 use Rattle.std.proofs.Common.{◌≡◌, ◌≢◌, ◌⊎◌, inl, inr, ℕ, refl, sym, ap₂, ◌∙◌, List, [], ◌++◌, Bool, true, false}
+use Rattle.fixed_decimal.specs.declared.signed.Decimal.{Decimal}
 use Rattle.fixed_decimal.specs.declared.signs.Sign.{Sign}
 use Rattle.fixed_decimal.specs.declared.signs.Sign.TheVariants.{Negative, Positive, None as NoSign}
 use Rattle.fixed_decimal.specs.Unsigned.{Unsigned, IsUnsigned}
 use Rattle.icu_decimal.specs.Decimal.{DecimalFormat}
 use Rattle.icu_decimal_readable.specs.Readable.{Surroundings}
-use Rattle.icu_ranges_readable.specs.RangeLaws.{ArePlain, Number, Pair}
+use Rattle.icu_ranges.specs.Order.{Ends}
+use Rattle.icu_ranges_readable.specs.RangeLaws.{AreDecimals}
 use Rattle.icu_ranges_readable.proofs.MarksFound.{clashing}
 use Rattle.icu_ranges_readable.proofs.Spaces.{spaces}
 use Rattle.icu_ranges_readable.specs.ReadableRange.{IsApart}
@@ -15,11 +17,11 @@ use Rattle.icu_ranges_readable.proofs.TwoNumbers.{TellsSigns, between_signs, dig
 use Rattle.icu_ranges_readable.proofs.TwoNumbers.{signs_tell, two_tell}
 
 -- a number of a sign and its digits
-abbrev pub number : Sign → Unsigned → Number
+abbrev pub number : Sign → Unsigned → Decimal
 number s u = record { sign = s; absolute = u }
 
 -- two numbers
-abbrev pub pair : Number → Number → Pair
+abbrev pub pair : Decimal → Decimal → Ends
 pair n m = record { start = n; end = m }
 
 -- a sign is none, or one
@@ -31,59 +33,59 @@ none_or_one Positive = inr (λ e. cc)
 module _ (f : DecimalFormat) (separator : List ℕ) (h : IsApart f separator) (around : Sign → Surroundings) (k : TellsSigns f separator h around)
     (once : Sign → Sign → Bool) (once_unsigned : (s t : Sign) → once s t ≡ true → (s ≡ NoSign) × (t ≡ NoSign)) where
   -- a number alone
-  abbrev pub alone : Number → List ℕ
+  abbrev pub alone : Decimal → List ℕ
   alone n = (around n.sign).before ++ (digits f separator h n.absolute ++ (around n.sign).after)
 
   -- two numbers, each in the surroundings of its sign
-  abbrev pub joined_signs : Number → Bool → Bool → Number → List ℕ
+  abbrev pub joined_signs : Decimal → Bool → Bool → Decimal → List ℕ
   joined_signs n back next m =
       (around n.sign).before
       ++ (digits f separator h n.absolute
       ++ (between_signs f separator h around k n.sign back next m.sign ++ (digits f separator h m.absolute ++ (around m.sign).after)))
 
   -- two numbers in the surroundings of no sign
-  abbrev pub joined_once : Number → Bool → Bool → Number → List ℕ
+  abbrev pub joined_once : Decimal → Bool → Bool → Decimal → List ℕ
   joined_once n back next m =
       (around NoSign).before
       ++ (digits f separator h n.absolute
       ++ ((spaces back ++ (separator ++ (spaces next ++ []))) ++ (digits f separator h m.absolute ++ (around NoSign).after)))
 
   -- characters of one number, which is both ends
-  pub record IsSingle (p : Pair) (cs : List ℕ) : Type 0 where
+  pub record IsSingle (p : Ends) (cs : List ℕ) : Type 0 where
     pub all : cs ≡ alone p.start
     pub same : p.start ≡ p.end
 
   -- those of two
-  pub record IsBoth (p : Pair) (cs : List ℕ) : Type 0 where
+  pub record IsBoth (p : Ends) (cs : List ℕ) : Type 0 where
     pub back : Bool
     pub next : Bool
     pub apart : once p.start.sign p.end.sign ≡ false
     pub all : cs ≡ joined_signs p.start back next p.end
 
   -- those of two in common surroundings
-  pub record IsShared (p : Pair) (cs : List ℕ) : Type 0 where
+  pub record IsShared (p : Ends) (cs : List ℕ) : Type 0 where
     pub back : Bool
     pub next : Bool
     pub together : once p.start.sign p.end.sign ≡ true
     pub all : cs ≡ joined_once p.start back next p.end
 
   -- those of a range
-  abbrev pub IsRange : Pair → List ℕ → Type 0
+  abbrev pub IsRange : Ends → List ℕ → Type 0
   IsRange p cs = IsSingle p cs ⊎ (IsBoth p cs ⊎ IsShared p cs)
 
   -- equal signs and digits are equal numbers
-  numbers : (n m : Number) → n.sign ≡ m.sign → n.absolute ≡ m.absolute → n ≡ m
+  numbers : (n m : Decimal) → n.sign ≡ m.sign → n.absolute ≡ m.absolute → n ≡ m
   numbers n m s u = ap₂ number s u
 
   -- one number is told
-  pub singles : (n m : Number) → IsUnsigned n.absolute → IsUnsigned m.absolute → alone n ≡ alone m → n ≡ m
+  pub singles : (n m : Decimal) → IsUnsigned n.absolute → IsUnsigned m.absolute → alone n ≡ alone m → n ≡ m
   singles n m hn hm e =
       let told = one_tells f separator h (around n.sign).before (around m.sign).before n.absolute m.absolute (around n.sign).after (around m.sign).after
       (k.before_free n.sign) (k.before_free m.sign) hn hm (k.after_free n.sign) (k.after_free m.sign) e in
       numbers n m (k.tells n.sign m.sign told.0) told.1
 
   -- two with signs are told
-  both_told : (p q : Pair) (back next before after : Bool) → ArePlain p → ArePlain q
+  both_told : (p q : Ends) (back next before after : Bool) → AreDecimals p → AreDecimals q
       → joined_signs p.start back next p.end ≡ joined_signs q.start before after q.end → p ≡ q
   both_told p q back next before after hp hq e =
       let told = two_tell f separator h (around p.start.sign).before (around q.start.sign).before p.start.absolute q.start.absolute
@@ -98,7 +100,7 @@ module _ (f : DecimalFormat) (separator : List ℕ) (h : IsApart f separator) (a
       ap₂ pair (numbers p.start q.start starts told.1) (numbers p.end q.end ends told.3)
 
   -- two in common surroundings are told
-  shared_told : (p q : Pair) (back next before after : Bool) → ArePlain p → ArePlain q → once p.start.sign p.end.sign ≡ true →
+  shared_told : (p q : Ends) (back next before after : Bool) → AreDecimals p → AreDecimals q → once p.start.sign p.end.sign ≡ true →
       once q.start.sign q.end.sign ≡ true → joined_once p.start back next p.end ≡ joined_once q.start before after q.end → p ≡ q
   shared_told p q back next before after hp hq op oq e =
       let told = two_tell f separator h (around NoSign).before (around NoSign).before p.start.absolute q.start.absolute p.end.absolute q.end.absolute
@@ -110,7 +112,7 @@ module _ (f : DecimalFormat) (separator : List ℕ) (h : IsApart f separator) (a
       ap₂ pair (numbers p.start q.start (here.0 ∙ sym there.0) told.1) (numbers p.end q.end (here.1 ∙ sym there.1) told.3)
 
   -- two with signs aren't two in common surroundings
-  both_not_shared : (p q : Pair) (back next before after : Bool) → ArePlain p → ArePlain q → once p.start.sign p.end.sign ≡ false →
+  both_not_shared : (p q : Ends) (back next before after : Bool) → AreDecimals p → AreDecimals q → once p.start.sign p.end.sign ≡ false →
       once q.start.sign q.end.sign ≡ true → joined_signs p.start back next p.end ≡ joined_once q.start before after q.end → ⊥
   both_not_shared p q back next before after hp hq op oq e =
       let told = two_tell f separator h (around p.start.sign).before (around NoSign).before p.start.absolute q.start.absolute
@@ -132,7 +134,7 @@ module _ (f : DecimalFormat) (separator : List ℕ) (h : IsApart f separator) (a
           sign_stands f separator h around k p.start.sign p.end.sign back next before after signed middle
 
   -- one number isn't two with signs
-  single_not_both : (n : Number) (q : Pair) (before after : Bool) → IsUnsigned n.absolute → ArePlain q
+  single_not_both : (n : Decimal) (q : Ends) (before after : Bool) → IsUnsigned n.absolute → AreDecimals q
       → alone n ≡ joined_signs q.start before after q.end → ⊥
   single_not_both n q before after hn hq e =
       one_is_not_two f separator h (around n.sign).before (around q.start.sign).before n.absolute q.start.absolute q.end.absolute
@@ -142,7 +144,7 @@ module _ (f : DecimalFormat) (separator : List ℕ) (h : IsApart f separator) (a
       (k.after_free n.sign) e
 
   -- nor two in common surroundings
-  single_not_shared : (n : Number) (q : Pair) (before after : Bool) → IsUnsigned n.absolute → ArePlain q
+  single_not_shared : (n : Decimal) (q : Ends) (before after : Bool) → IsUnsigned n.absolute → AreDecimals q
       → alone n ≡ joined_once q.start before after q.end → ⊥
   single_not_shared n q before after hn hq e =
       one_is_not_two f separator h (around n.sign).before (around NoSign).before n.absolute q.start.absolute q.end.absolute
@@ -150,7 +152,7 @@ module _ (f : DecimalFormat) (separator : List ℕ) (h : IsApart f separator) (a
       (k.before_free n.sign) (k.before_free NoSign) hn hq.start hq.end (is_middle f separator h [] [] before after tt tt) (k.after_free n.sign) e
 
   -- equal characters are of equal ranges
-  pub ranges_tell : (p q : Pair) (cs ds : List ℕ) → ArePlain p → ArePlain q → IsRange p cs → IsRange q ds → cs ≡ ds → p ≡ q
+  pub ranges_tell : (p q : Ends) (cs ds : List ℕ) → AreDecimals p → AreDecimals q → IsRange p cs → IsRange q ds → cs ≡ ds → p ≡ q
   ranges_tell p q cs ds hp hq (inl a) (inl b) e =
       let starts = singles p.start q.start hp.start hq.start (sym a.all ∙ e ∙ b.all) in
       ap₂ pair starts (sym a.same ∙ starts ∙ b.same)

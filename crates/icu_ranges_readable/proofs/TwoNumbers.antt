@@ -1,25 +1,26 @@
 -- Texts with two numbers, each between surroundings: what their characters determine.
 -- The surroundings of a sign are any texts without a digit, of which that before a number tells the sign. So the same holds for plain
 -- numbers with their affixes and for amounts with what stands around them.
-use Rattle.std.proofs.Common.{◌≡◌, ◌≢◌, inl, inr, ℕ, ◌<◌, arith, sym, ap, ◌∙◌, subst, List, [], ◌++◌}
+use Rattle.std.proofs.Common.{◌≡◌, ◌≢◌, inl, inr, ℕ, ◌<◌, arith, refl, sym, ap, ◌∙◌, subst, List, [], ◌++◌}
 use Rattle.std.proofs.Common.{Bool, true, false}
 use Rattle.std.proofs.lemmas.List.{append_cancel_left}
 use Rattle.fixed_decimal.specs.declared.signs.Sign.{Sign}
-use Rattle.fixed_decimal.specs.declared.signs.Sign.TheVariants.{None as NoSign}
+use Rattle.fixed_decimal.specs.declared.signs.Sign.TheVariants.{Negative, Positive, None as NoSign}
 use Rattle.fixed_decimal.specs.Unsigned.{Unsigned, IsUnsigned}
 use Rattle.writeable.specs.Events.{characters}
 use Rattle.icu_decimal.specs.Decimal.{DecimalFormat, unsigned_events}
 use Rattle.icu_decimal.proofs.DigitsDistinct.{IsDigitOf, IsOther}
 use Rattle.icu_decimal.proofs.Runs.{Begins, Every, every-append, every_after, split_run}
-use Rattle.icu_decimal.proofs.TextsDistinct.{text_tells}
-use Rattle.icu_decimal_readable.specs.Readable.{Surroundings}
+use Rattle.icu_decimal.proofs.TextsDistinct.{are_others, text_tells}
+use Rattle.icu_decimal_readable.specs.Readable.{IsFreeOfDigits, Surroundings}
 use Rattle.icu_ranges_readable.specs.Characters.{has}
-use Rattle.icu_ranges_readable.specs.ReadableRange.{IsApart}
-use Rattle.icu_ranges_readable.proofs.MarksFound.{IsMarkIn, clashing, found_has, mark_found, none_found, not_contained}
+use Rattle.icu_ranges_readable.specs.ReadableRange.{IsApart, SignsStandBefore}
+use Rattle.icu_ranges_readable.proofs.MarksFound.{IsMarkIn, clashing, found_has, mark_found, no_space_begins, none_found, not_contained}
+use Rattle.icu_ranges_readable.proofs.MarksFound.{visible_begins, visible_count}
 use Rattle.icu_ranges_readable.proofs.NumberShape.{IsSeparatorOf, is_number}
 use Rattle.icu_ranges_readable.proofs.Numerals.{Closes, numeral_tells, text}
 use Rattle.icu_ranges_readable.proofs.Numerals.Tail.{digit}
-use Rattle.icu_ranges_readable.proofs.Spaces.{Has, IsInk, has_after, has_before, inks, inks-append, inks-spaces, spaced_tells, spaces}
+use Rattle.icu_ranges_readable.proofs.Spaces.{Has, IsNoSpace, has_after, has_before, no_spaces, no_spaces-append, no_spaces-spaces, spaced_tells, spaces}
 
 -- no character is both
 other_digits : (f : DecimalFormat) (c : ℕ) → IsDigitOf f c → IsOther f c → ⊥
@@ -139,8 +140,39 @@ module _ (f : DecimalFormat) (separator : List ℕ) (h : IsApart f separator) wh
     pub before_free : (s : Sign) → Every (IsOther f) (around s).before
     pub after_free : (s : Sign) → Every (IsOther f) (around s).after
     pub tells : (s t : Sign) → (around s).before ≡ (around t).before → s ≡ t
-    pub begins : (s : Sign) → Begins IsInk (around s).before
-    pub some : (s : Sign) → s ≢ NoSign → 0 < inks (around s).before
+    pub begins : (s : Sign) → Begins IsNoSpace (around s).before
+    pub some : (s : Sign) → s ≢ NoSign → 0 < no_spaces (around s).before
+
+  -- they tell it where no digit stands around numbers, and what stands before them tells their sign
+  pub tells_signs : (around : Sign → Surroundings) → ((s : Sign) → IsFreeOfDigits f.digits (around s)) → SignsStandBefore around → TellsSigns around
+  tells_signs around free k = record {
+    before_free = λ s. (are_others f (around s) (free s)).before;
+    after_free = λ s. (are_others f (around s) (free s)).after;
+    tells = tells;
+    begins = begins;
+    some = some;
+  }
+    where
+      tells : (s t : Sign) → (around s).before ≡ (around t).before → s ≡ t
+      tells NoSign NoSign e = refl
+      tells NoSign Negative e = absurd (k.minus_differs e)
+      tells NoSign Positive e = absurd (k.plus_differs e)
+      tells Negative NoSign e = absurd (k.minus_differs (sym e))
+      tells Negative Negative e = refl
+      tells Negative Positive e = absurd (k.differ e)
+      tells Positive NoSign e = absurd (k.plus_differs (sym e))
+      tells Positive Negative e = absurd (k.differ (sym e))
+      tells Positive Positive e = refl
+
+      begins : (s : Sign) → Begins IsNoSpace (around s).before
+      begins NoSign = no_space_begins (around NoSign).before k.none_begins
+      begins Negative = visible_begins (around Negative).before k.minus_begins
+      begins Positive = visible_begins (around Positive).before k.plus_begins
+
+      some : (s : Sign) → s ≢ NoSign → 0 < no_spaces (around s).before
+      some NoSign signed = absurd (signed refl)
+      some Negative signed = visible_count (around Negative).before k.minus_begins
+      some Positive signed = visible_count (around Positive).before k.plus_begins
 
   module _ (around : Sign → Surroundings) (k : TellsSigns around) where
     -- what stands between the digits of two numbers with signs
@@ -154,21 +186,21 @@ module _ (f : DecimalFormat) (separator : List ℕ) (h : IsApart f separator) wh
         let here : List ℕ = spaces back ++ (separator ++ (spaces next ++ (around t).before)) in
         let there : List ℕ = spaces before ++ (separator ++ (spaces after ++ (around v).before)) in
         let rests = append_cancel_left (around s).after here there (e ∙ ap (λ q. (around q).after ++ there) (sym same)) in
-        k.tells t v (spaced_tells mark.mark mark.is_ink separator mark.stands back before next after (around t).before (around v).before
+        k.tells t v (spaced_tells mark.mark mark.is_no_space separator mark.stands back before next after (around t).before (around v).before
         (k.begins t) (k.begins v) rests)
 
     -- one with a sign behind the separator isn't the separator alone
     pub sign_stands : (s t : Sign) (back next before after : Bool) → t ≢ NoSign →
         between_signs s back next t ≡ spaces before ++ (separator ++ (spaces after ++ [])) → ⊥
     sign_stands s t back next before after signed e =
-        let here = inks-append (around s).after (spaces back ++ (separator ++ (spaces next ++ (around t).before))) in
-        let more = inks-append (spaces back) (separator ++ (spaces next ++ (around t).before)) in
-        let rest = inks-append separator (spaces next ++ (around t).before) in
-        let last = inks-append (spaces next) (around t).before in
-        let there = inks-append (spaces before) (separator ++ (spaces after ++ [])) in
-        let end = inks-append separator (spaces after ++ []) in
-        let nothing = inks-append (spaces after) [] in
-        let same : inks (between_signs s back next t) ≡ inks (spaces before ++ (separator ++ (spaces after ++ []))) = ap inks e in
+        let here = no_spaces-append (around s).after (spaces back ++ (separator ++ (spaces next ++ (around t).before))) in
+        let more = no_spaces-append (spaces back) (separator ++ (spaces next ++ (around t).before)) in
+        let rest = no_spaces-append separator (spaces next ++ (around t).before) in
+        let last = no_spaces-append (spaces next) (around t).before in
+        let there = no_spaces-append (spaces before) (separator ++ (spaces after ++ [])) in
+        let end = no_spaces-append separator (spaces after ++ []) in
+        let nothing = no_spaces-append (spaces after) [] in
+        let same : no_spaces (between_signs s back next t) ≡ no_spaces (spaces before ++ (separator ++ (spaces after ++ []))) = ap no_spaces e in
         let some = k.some t signed in
         absurd (omega (
           arith,
@@ -181,8 +213,8 @@ module _ (f : DecimalFormat) (separator : List ℕ) (h : IsApart f separator) wh
           nothing,
           same,
           some,
-          inks-spaces back,
-          inks-spaces next,
-          inks-spaces before,
-          inks-spaces after,
+          no_spaces-spaces back,
+          no_spaces-spaces next,
+          no_spaces-spaces before,
+          no_spaces-spaces after,
         ))

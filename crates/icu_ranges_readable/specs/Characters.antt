@@ -14,9 +14,9 @@ has_any [] xs = false
 has_any (c ∷ cs) xs = has c xs || has_any cs xs
 
 -- the first character is there, and isn't a space
-abbrev pub begins_with_ink : List ℕ → Bool
-begins_with_ink [] = false
-begins_with_ink (c ∷ cs) = not (c == 32)
+abbrev pub begins_visibly : List ℕ → Bool
+begins_visibly [] = false
+begins_visibly (c ∷ cs) = not (c == 32)
 
 -- the first character is a space
 abbrev pub begins_with_space : List ℕ → Bool

@@ -1,60 +1,50 @@
 -- What a readable text of a range determines; each is the contract of a function of `laws`.
 use Rattle.std.specs.Prelude.{◌≡◌, ℕ, List}
-use Rattle.fixed_decimal.specs.declared.signs.Sign.{Sign}
-use Rattle.fixed_decimal.specs.Unsigned.{Unsigned, IsUnsigned}
+use Rattle.fixed_decimal.specs.Unsigned.{IsUnsigned}
 use Rattle.writeable.specs.Events.{Event, characters, text_of}
 use Rattle.icu_decimal.specs.Decimal.{DecimalFormat}
 use Rattle.icu_decimal_interface.specs.Shown.{plain_shown}
 use Rattle.icu_dimension.specs.Money.{SignedFormat}
 use Rattle.icu_ranges.specs.Around.{amounts_events}
+use Rattle.icu_ranges.specs.Order.{Ends}
 use Rattle.icu_ranges.specs.Ranges.{RangeStyle, numbers_events}
 use Rattle.icu_ranges_readable.specs.ReadableRange.{IsReadableAmountRange, IsReadableRange}
 
--- a number: its sign, and its digits in their range
-pub record Number : Type 0 where
-  pub sign : Sign
-  pub absolute : Unsigned
-
--- two numbers, whichever is above the other
-pub record Pair : Type 0 where
-  pub start : Number
-  pub end : Number
-
--- both numbers are well formed, as all decimals are
-pub record ArePlain (p : Pair) : Type 0 where
+-- both ends are well formed, as all decimals are, whichever is above the other
+pub record AreDecimals (p : Ends) : Type 0 where
   pub start : IsUnsigned p.start.absolute
   pub end : IsUnsigned p.end.absolute
 
 -- what is written for two numbers over a plain formatter
-abbrev pub plain_range : DecimalFormat → RangeStyle → Pair → List Event
+abbrev pub plain_range : DecimalFormat → RangeStyle → Ends → List Event
 plain_range f style p =
     numbers_events style f.symbols p.start.sign p.end.sign
     (record { first = plain_shown f p.start.absolute; second = plain_shown f p.end.absolute })
 
 -- Two ranges that a readable formatter writes in the same characters have equal starts and equal ends: in sign, range and every digit.
 abbrev pub RangeTextTellsBothEnds : Type 0
-RangeTextTellsBothEnds = (f : DecimalFormat) (style : RangeStyle) (p q : Pair) → IsReadableRange f style.separator → ArePlain p → ArePlain q
+RangeTextTellsBothEnds = (f : DecimalFormat) (style : RangeStyle) (p q : Ends) → IsReadableRange f style.separator → AreDecimals p → AreDecimals q
     → characters (plain_range f style p) ≡ characters (plain_range f style q) → p ≡ q
 
 -- Two texts of ranges that a readable formatter writes are equal only where the ranges are.
 abbrev pub EqualRangeTextsTell : Type 0
-EqualRangeTextsTell = (f : DecimalFormat) (style : RangeStyle) (p q : Pair) (one other : List ℕ) → IsReadableRange f style.separator →
-    ArePlain p → ArePlain q
+EqualRangeTextsTell = (f : DecimalFormat) (style : RangeStyle) (p q : Ends) (one other : List ℕ) → IsReadableRange f style.separator →
+    AreDecimals p → AreDecimals q
     → one ≡ text_of (plain_range f style p) → other ≡ text_of (plain_range f style q) → one ≡ other → p ≡ q
 
 -- what is written for two amounts of money, or two numbers of percents, over a plain formatter
-abbrev pub plain_amounts : SignedFormat DecimalFormat → RangeStyle → Pair → List Event
+abbrev pub plain_amounts : SignedFormat DecimalFormat → RangeStyle → Ends → List Event
 plain_amounts f style p =
     amounts_events style f.patterns p.start.sign p.end.sign
     (record { first = plain_shown f.formatter p.start.absolute; second = plain_shown f.formatter p.end.absolute })
 
 -- Two ranges of amounts that are written in the same characters, and are readable, have equal starts and equal ends.
 abbrev pub AmountRangeTextTellsBothEnds : Type 0
-AmountRangeTextTellsBothEnds = (f : SignedFormat DecimalFormat) (style : RangeStyle) (p q : Pair) → IsReadableAmountRange f style.separator → ArePlain p →
-    ArePlain q → characters (plain_amounts f style p) ≡ characters (plain_amounts f style q) → p ≡ q
+AmountRangeTextTellsBothEnds = (f : SignedFormat DecimalFormat) (style : RangeStyle) (p q : Ends) → IsReadableAmountRange f style.separator
+    → AreDecimals p → AreDecimals q → characters (plain_amounts f style p) ≡ characters (plain_amounts f style q) → p ≡ q
 
 -- Two texts of such ranges are equal only where the ranges are.
 abbrev pub EqualAmountRangeTextsTell : Type 0
-EqualAmountRangeTextsTell = (f : SignedFormat DecimalFormat) (style : RangeStyle) (p q : Pair) (one other : List ℕ) →
-    IsReadableAmountRange f style.separator → ArePlain p → ArePlain q
+EqualAmountRangeTextsTell = (f : SignedFormat DecimalFormat) (style : RangeStyle) (p q : Ends) (one other : List ℕ) →
+    IsReadableAmountRange f style.separator → AreDecimals p → AreDecimals q
     → one ≡ text_of (plain_amounts f style p) → other ≡ text_of (plain_amounts f style q) → one ≡ other → p ≡ q

@@ -4,10 +4,10 @@ ghost use Rattle.std.specs.Prelude.{◌≡◌, ◌↔◌, ◌∷◌, [], ◌++�
 ghost use Rattle.std.specs.String.{string_bytes};
 ghost use Rattle.icu_decimal_readable.specs.Readable.{IsFreeOfDigits};
 ghost use Rattle.icu_dimension.specs.MoneyReadable.{HasNoDigitAround, money_surroundings};
-ghost use Rattle.icu_ranges_readable.specs.ReadableRange.{IsReadableAmountRange, SignsStandBefore, TellSigns};
+ghost use Rattle.icu_ranges_readable.specs.ReadableRange.{IsReadableAmountRange, SignsStandBefore};
 
-use crate::characters::{begins_with_ink, begins_with_space, text_until};
-use crate::readable::{has_same_characters, is_apart};
+use crate::characters::text_until;
+use crate::readable::{do_tell_signs, is_apart};
 use fixed_decimal::Sign;
 use icu_decimal::DecimalFormatter;
 use icu_dimension_data::SignedPatterns;
@@ -70,19 +70,6 @@ fn text_before(
     }
 }
 
-/// Whether texts before numbers tell their sign.
-fn do_tell_signs(none: &str, minus: &str, plus: &str) -> bool
-    ensures { IsTrue result ↔ TellSigns (chars none.now) (chars minus.now) (chars plus.now) }
-{
-    if begins_with_space(none) || !begins_with_ink(minus) || !begins_with_ink(plus) {
-        return false;
-    }
-    if has_same_characters(none, minus) || has_same_characters(none, plus) {
-        return false;
-    }
-    !has_same_characters(minus, plus)
-}
-
 /// Whether what stands before amounts tells their sign.
 fn do_signs_stand_before(
     alloc: Global,
@@ -90,7 +77,7 @@ fn do_signs_stand_before(
     digit: char,
 ) -> Result<bool, OutOfMemory>
     requires { HasNoDigitAround (digit ∷ []) patterns.now }
-    ensures { IfOk result (λ b. IsTrue b ↔ SignsStandBefore patterns.now) }
+    ensures { IfOk result (λ b. IsTrue b ↔ SignsStandBefore (money_surroundings patterns.now)) }
 {
     let none = text_before(alloc, patterns, Sign::None, digit)?;
     let minus = text_before(alloc, patterns, Sign::Negative, digit)?;

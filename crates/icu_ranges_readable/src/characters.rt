@@ -2,7 +2,7 @@
 
 ghost use Rattle.std.specs.Prelude.{◌≡◌, IfOk, chars};
 ghost use Rattle.std.specs.String.{string_bytes};
-ghost use Rattle.icu_ranges_readable.specs.Characters.{begins_with_ink, begins_with_space, has, has_any, has_mark, is_mark, until};
+ghost use Rattle.icu_ranges_readable.specs.Characters.{begins_visibly, begins_with_space, has, has_any, has_mark, is_mark, until};
 
 use icu_decimal_symbols::DecimalSymbols;
 use std::alloc::{AllocError, Global};
@@ -44,8 +44,8 @@ pub(crate) fn has_any(characters: &[char], text: &str) -> bool
 }
 
 /// Whether a text has a first character that isn't a space.
-pub(crate) fn begins_with_ink(text: &str) -> bool
-    ensures { result ≡ begins_with_ink (chars text.now) }
+pub(crate) fn begins_visibly(text: &str) -> bool
+    ensures { result ≡ begins_visibly (chars text.now) }
 {
     match text.chars().next() {
         Some(character) => character != ' ',

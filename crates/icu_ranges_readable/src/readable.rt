@@ -1,30 +1,39 @@
 //! Whether ranges of plain numbers are readable.
 
 ghost use Rattle.std.specs.Prelude.{◌≡◌, ◌↔◌, IsTrue, chars};
-ghost use Rattle.icu_ranges_readable.specs.ReadableRange.{IsApart, IsReadableRange, SignsStandInFront};
+ghost use Rattle.icu_decimal_readable.specs.Readable.{affixes};
+ghost use Rattle.icu_ranges_readable.specs.ReadableRange.{IsApart, IsReadableRange, SignsStandBefore, TellSigns};
 
-use crate::characters::{begins_with_ink, has_any, has_mark, is_among};
+use crate::characters::{begins_visibly, begins_with_space, has_any, has_mark, is_among};
 use icu_decimal::DecimalFormatter;
 use icu_decimal_symbols::DecimalSymbols;
 use icu_ranges::RangePattern;
 
 /// Whether two texts have the same characters.
-pub(crate) fn has_same_characters(one: &str, other: &str) -> bool
+fn has_same_characters(one: &str, other: &str) -> bool
     ensures { IsTrue result ↔ (chars one.now ≡ chars other.now) }
 {
     one == other
 }
 
-/// Whether what stands in front of a number tells its sign.
-fn do_signs_stand_in_front(symbols: &DecimalSymbols) -> bool
-    ensures { IsTrue result ↔ SignsStandInFront symbols.now.strings }
+/// Whether texts before numbers without a sign, with a minus and with a plus tell the sign.
+pub(crate) fn do_tell_signs(none: &str, minus: &str, plus: &str) -> bool
+    ensures { IsTrue result ↔ TellSigns (chars none.now) (chars minus.now) (chars plus.now) }
 {
-    let minus = symbols.minus_sign_prefix();
-    let plus = symbols.plus_sign_prefix();
-    if !begins_with_ink(minus) || !begins_with_ink(plus) {
+    if begins_with_space(none) || !begins_visibly(minus) || !begins_visibly(plus) {
+        return false;
+    }
+    if has_same_characters(none, minus) || has_same_characters(none, plus) {
         return false;
     }
     !has_same_characters(minus, plus)
+}
+
+/// Whether the affixes before numbers tell their sign.
+fn do_affixes_tell_signs(symbols: &DecimalSymbols) -> bool
+    ensures { IsTrue result ↔ SignsStandBefore (affixes symbols.now.strings) }
+{
+    do_tell_signs("", symbols.minus_sign_prefix(), symbols.plus_sign_prefix())
 }
 
 /// Whether a separator of ranges stands apart from the numbers of a readable formatter.
@@ -60,5 +69,5 @@ pub fn are_ranges_readable(formatter: &DecimalFormatter, pattern: &RangePattern)
     if !is_apart(formatter, pattern.separator()) {
         return false;
     }
-    do_signs_stand_in_front(formatter.symbols())
+    do_affixes_tell_signs(formatter.symbols())
 }

@@ -24,7 +24,7 @@ returns c =
     let apart = c.is_apart.ensures.0 c.if-not-is_apart.false in
     let free = subst (λ ds. HasNoDigitAround ds c.args.patterns.now) c.digits-digits.ensures
     (c.has_no_digit_around.ensures.0 c.if-not-has_no_digit_around.false) in
-    if_ok (λ b. IsTrue b ↔ SignsStandBefore c.args.patterns.now)
+    if_ok (λ b. IsTrue b ↔ SignsStandBefore (money_surroundings c.args.patterns.now))
     (λ b. IsTrue b ↔ IsReadableAmountRange (record { formatter = c.args.formatter.now; patterns = c.args.patterns.now }) c.args.pattern.now)
     c.do_signs_stand_before.result
     (λ b h. (λ e. record { apart = rw (sym c.separator.ensures) apart; around_free = free; signs_before = h.0 e }, λ all. h.1 all.signs_before))
