@@ -16,6 +16,10 @@ use decimal_lines::{FillError, Mode, Progress, TextError, Words, format_some, fo
 use number_forms::Form;
 use std::alloc::Global;
 
+/// How many bytes beyond the argument's length are reserved for a text; a longer text asks for
+/// more.
+const ROOM: usize = 64;
+
 /// What writes the numbers of a formatter that is kept.
 #[derive(Drop)]
 pub enum Kept {
@@ -97,7 +101,9 @@ fn format_text_by(
     ensures refused { IfErr result (λ error. IsRefusal (form_events form.now text.now) error) }
     ensures unchanged { OnErr result (output.new ≡ output.old) }
 {
-    let mut shown = Vec::new(alloc);
+    let Ok(mut shown) = Vec::with_capacity(alloc, text.len().saturating_add(ROOM)) else {
+        return Err(TextError::OutOfMemory);
+    };
     form.push(alloc, text, &mut shown)?;
     Ok(put_text(output, &shown))
 }

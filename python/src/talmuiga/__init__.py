@@ -301,11 +301,11 @@ class Formatter:
             # a list of our own, since nobody may change it meanwhile
             own = list(numbers)
             given: Sequence[Number] = own
-            answers = _library.many(self._opened, own, text_of)
+            answers, has_refused = _library.many(self._opened, own, text_of)
         else:
             given = cast(Sequence[Number], numbers)
-            answers = _library.raw(self._opened, *buffer)
-        if int in set(map(type, answers)):
+            answers, has_refused = _library.raw(self._opened, *buffer)
+        if has_refused:
             replace_refused(answers, given, mark)
         # no status is left among them
         return cast(List[str], answers)

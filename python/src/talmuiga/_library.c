@@ -285,9 +285,10 @@ struct number {
     size_t answer_len;
 };
 
-/* Some numbers on their way. */
+/* Some numbers on their way, and whether one before them had no text. */
 struct batch {
     size_t count;
+    int has_refused;
     struct number numbers[AT_ONCE];
     struct bytes own, output;
 };
@@ -348,6 +349,7 @@ static int put_batch(const talmuiga_formatter *formatter, struct batch *batch, P
     }
     for (size_t i = 0; i < batch->count; i++) {
         const struct number *number = &batch->numbers[i];
+        batch->has_refused |= number->status != TALMUIGA_DONE;
         PyObject *answer = number->status
                                ? PyLong_FromUnsignedLong(number->status)
                                : PyUnicode_DecodeUTF8(batch->output.at + start, (Py_ssize_t)number->answer_len, NULL);
@@ -389,8 +391,13 @@ static int add_number(struct batch *batch, PyObject *numbers, Py_ssize_t index, 
     return appended < 0 ? add_text(batch, numbers, index, text_of) : add_own(batch, start, appended);
 }
 
-/* A list of what `one` answers to each number of a list, which nobody else has; what spells no number itself is replaced in it by
- * its text, by a function. */
+/* What the numbers of a batch came to: the list, and whether a status is in it. */
+static PyObject *with_refused(const struct batch *batch, PyObject *answers) {
+    return answers ? Py_BuildValue("(NO)", answers, batch->has_refused ? Py_True : Py_False) : NULL;
+}
+
+/* A list of what `one` answers to each number of a list, which nobody else has, and whether a status is in it; what spells no
+ * number itself is replaced by its text, by a function. */
 static PyObject *many(PyObject *Py_UNUSED(module), PyObject *words) {
     PyObject *capsule, *numbers, *text_of;
     if (!PyArg_ParseTuple(words, "OO!O", &capsule, &PyList_Type, &numbers, &text_of)) return NULL;
@@ -407,8 +414,9 @@ static PyObject *many(PyObject *Py_UNUSED(module), PyObject *words) {
             first = i + 1;
         }
     }
+    PyObject *both = with_refused(batch, answers);
     free_batch(batch);
-    return answers;
+    return both;
 }
 
 /* Appends the text of the number at some bytes, by its letter of Python's module `struct`. */
@@ -443,7 +451,7 @@ static int add_raw(struct batch *batch, const char *at, int letter) {
     return add_own(batch, start, append_raw(&batch->own, at, letter));
 }
 
-/* A list of what `one` answers to each number of bytes, which are numbers of one letter of `struct`, in this machine's form. */
+/* The same of each number of bytes, which are numbers of one letter of `struct`, in this machine's form. */
 static PyObject *raw(PyObject *Py_UNUSED(module), PyObject *words) {
     PyObject *capsule;
     const char *bytes;
@@ -463,8 +471,9 @@ static PyObject *raw(PyObject *Py_UNUSED(module), PyObject *words) {
             first = i + 1;
         }
     }
+    PyObject *both = with_refused(batch, answers);
     free_batch(batch);
-    return answers;
+    return both;
 }
 
 /* Why tables are refused, in words; nothing where they are accepted. */
@@ -538,8 +547,8 @@ static PyMethodDef methods[] = {
     {"list", list, METH_VARARGS, "What tables hold of a kind, a name in each line, or a status."},
     {"one", (PyCFunction)(void (*)(void))one, METH_FASTCALL, "What a number is formatted to, or a status."},
     {"parts", parts, METH_VARARGS, "What a text is formatted to and its parts, in characters, or a status."},
-    {"many", many, METH_VARARGS, "A list of what the numbers of a list are formatted to, or of statuses."},
-    {"raw", raw, METH_VARARGS, "A list of what the numbers of some bytes are formatted to, or of statuses."},
+    {"many", many, METH_VARARGS, "A list of what the numbers of a list are formatted to, or of statuses, and whether one is in it."},
+    {"raw", raw, METH_VARARGS, "The same of the numbers of some bytes."},
     {NULL, NULL, 0, NULL},
 };
 
