@@ -30,27 +30,12 @@ fn print_parts(rt: &HostRuntime, text: &PartsText) -> Option<()> {
     Some(())
 }
 
-/// The text of a decimal, with its parts.
-fn text_of(
-    alloc: Global,
-    formatter: &DecimalFormatter,
-    decimal: &Decimal,
-) -> Option<PartsText> {
-    let mut text = PartsText::new(alloc);
-    formatter.format(decimal).write_to_parts(&mut text).ok()?;
-    Some(text)
-}
-
-/// The text of a number in English, with its parts.
-fn plain_english(alloc: Global, number: &str) -> Option<PartsText> {
-    let formatter = english(alloc, DecimalFormatterOptions::default())?;
-    let decimal = Decimal::try_from_str(alloc, number).ok()?;
-    text_of(alloc, &formatter, &decimal)
-}
-
 /// Writes a number in English, and its parts.
 fn print_plain(rt: &HostRuntime, number: &str) -> Option<()> {
-    let text = plain_english(rt.alloc(), number)?;
+    let formatter = english(rt.alloc(), DecimalFormatterOptions::default())?;
+    let decimal = Decimal::try_from_str(rt.alloc(), number).ok()?;
+    let mut text = PartsText::new(rt.alloc());
+    formatter.format(&decimal).write_to_parts(&mut text).ok()?;
     print_parts(rt, &text)
 }
 
