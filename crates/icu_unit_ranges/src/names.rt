@@ -27,11 +27,9 @@ fn name_of_range<'a, F: AbstractFormatter, A, B>(
         (range_category style.now.plural_ranges.now money.now.rules start.now.operands
         end.now.operands) }
 {
-    let category = style.plural_ranges.category_for_range(
-        money.plural_rules(),
-        start.operands,
-        end.operands,
-    );
+    let category = style
+        .plural_ranges
+        .category_for_range(money.plural_rules(), start.operands, end.operands);
     value_for(money.elements(), category)
 }
 

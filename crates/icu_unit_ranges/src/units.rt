@@ -55,11 +55,9 @@ fn pattern_of_range<'a, F: AbstractFormatter, A, B>(
         (range_category style.now.plural_ranges.now units.now.rules start.now.operands
         end.now.operands) }
 {
-    let category = style.plural_ranges.category_for_range(
-        units.plural_rules(),
-        start.operands,
-        end.operands,
-    );
+    let category = style
+        .plural_ranges
+        .category_for_range(units.plural_rules(), start.operands, end.operands);
     range_unit(units.elements(), category)
 }
 
