@@ -21,8 +21,8 @@ names_joined style symbols rules elements start_sign end_sign o start p end =
     (joined style.style.separator (signed_events symbols start_sign start) (signed_events symbols end_sign end))
 
 -- two amounts with the name as a range; where both texts, each with its own name, are one, the first alone
-abbrev pub names_range_framed : PluralStyle → DecimalSymbols → List Rule → Elements NameText → Sign → Sign → Operands → List Event → Operands →
-    List Event → List Event
+abbrev pub names_range_framed : PluralStyle → DecimalSymbols → List Rule → Elements NameText → Sign → Sign → Operands → List Event →
+    Operands → List Event → List Event
 names_range_framed style symbols rules elements start_sign end_sign o start p end =
     first_or style.style.fallback (names_framed symbols rules elements start_sign o start) (names_framed symbols rules elements end_sign p end)
     (names_joined style symbols rules elements start_sign end_sign o start p end)

@@ -32,8 +32,8 @@ units_joined style symbols rules elements start_sign end_sign o start p end =
     (joined style.style.separator (signed_events symbols start_sign start) (signed_events symbols end_sign end))
 
 -- two numbers with their unit as a range; where both texts, each with its own unit, are one, the first alone
-abbrev pub units_range_framed : PluralStyle → DecimalSymbols → List Rule → Elements PatternText → Sign → Sign → Operands → List Event → Operands →
-    List Event → List Event
+abbrev pub units_range_framed : PluralStyle → DecimalSymbols → List Rule → Elements PatternText → Sign → Sign → Operands → List Event →
+    Operands → List Event → List Event
 units_range_framed style symbols rules elements start_sign end_sign o start p end =
     first_or style.style.fallback (units_framed symbols rules elements start_sign o start) (units_framed symbols rules elements end_sign p end)
     (units_joined style symbols rules elements start_sign end_sign o start p end)
