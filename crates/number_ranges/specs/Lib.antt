@@ -1,3 +1,4 @@
 pub mod Reported
 pub mod Ranges
 pub mod WroteRange
+pub mod ByCategory

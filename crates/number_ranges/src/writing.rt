@@ -18,7 +18,7 @@ use number_forms::{Form, Formatter, Prepared};
 use std::alloc::Global;
 
 /// Why a range wasn't written, if it wasn't: a writer that fails counts as out of memory.
-fn written_or(written: Result<(), FormatError>) -> Result<(), RangeTextError>
+pub(crate) fn written_or(written: Result<(), FormatError>) -> Result<(), RangeTextError>
     ensures { result ≡ written_or written }
 {
     match written {
@@ -100,7 +100,7 @@ fn push_whole(
 }
 
 /// Appends two decimals as a range.
-fn push_written(
+pub(crate) fn push_written(
     alloc: Global,
     form: &Form,
     style: &RangeStyle<'_>,

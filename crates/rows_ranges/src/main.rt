@@ -5,6 +5,7 @@ mod amounts;
 mod ends;
 mod faults;
 mod locales;
+mod measures;
 mod plural;
 mod tables;
 mod written;
@@ -17,7 +18,7 @@ use std::io;
 /// What a call answers; `None` if there is no such call.
 type CallResult = Result<Option<String>, AllocError>;
 
-/// The calls of `icu_ranges`.
+/// The calls of `icu_ranges` and of the crates above it.
 struct RangeCalls;
 
 /// What a call answers: of the type that its name begins with.
@@ -49,6 +50,9 @@ fn returned(
         ("PluralRanges", _) => plural::returned(alloc, documents, call, arguments),
         ("PercentRangeFormatter" | "CurrencyRangeFormatter", _) => {
             amounts::returned(alloc, documents, (kind, call), arguments)
+        }
+        ("UnitsRangeFormatter" | "LongCurrencyRangeFormatter", _) => {
+            measures::returned(alloc, documents, (kind, call), arguments)
         }
         _ => Err(Fault::Unreadable),
     }

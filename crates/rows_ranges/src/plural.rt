@@ -48,7 +48,7 @@ fn entry_of(text: &str) -> Option<PluralRange> {
 }
 
 /// The entries of a text, between `; `.
-fn ranges(alloc: Global, text: &str) -> Result<PluralRanges, Fault> {
+pub(crate) fn ranges(alloc: Global, text: &str) -> Result<PluralRanges, Fault> {
     let mut entries = Vec::new(alloc);
     if !text.is_empty() {
         for part in text.split("; ") {
@@ -86,7 +86,7 @@ fn operands(alloc: Global, word: &str) -> Result<PluralOperands, DecimalError> {
 }
 
 /// The cardinal rules of a locale.
-fn rules(alloc: Global, tables: &Tables, locale: &str) -> Result<PluralRules, Fault> {
+pub(crate) fn rules(alloc: Global, tables: &Tables, locale: &str) -> Result<PluralRules, Fault> {
     let Ok(locale) = DataLocale::try_from_str(locale) else {
         return Err(Fault::Unreadable);
     };

@@ -6,6 +6,7 @@ use icu_decimal_interface::AbstractFormatter;
 use icu_ranges::{
     CurrencyRangeFormatter, DecimalRange, NumberRangeFormatter, PercentRangeFormatter,
 };
+use icu_unit_ranges::{LongCurrencyRangeFormatter, UnitsRangeFormatter};
 use std::alloc::{AllocError, Global};
 use std::str;
 use writeable::{Part, PartsText};
@@ -78,6 +79,54 @@ impl<F: AbstractFormatter> RangeWriter for CurrencyRangeFormatter<F> {
 }
 
 impl<F: AbstractFormatter> RangeWriter for PercentRangeFormatter<F> {
+    fn write_bytes(
+        &self,
+        alloc: Global,
+        range: &DecimalRange,
+        out: &mut Vec<u8>,
+    ) -> Result<(), FormatError> {
+        self.write_into(alloc, range, out)
+    }
+
+    fn write_parts(
+        &self,
+        alloc: Global,
+        range: &DecimalRange,
+        sink: &mut PartsText,
+    ) -> Result<(), FormatError> {
+        self.write(alloc, range, sink)
+    }
+
+    fn range_text(&self, alloc: Global, range: &DecimalRange) -> Result<String, FormatError> {
+        self.write_to_string(alloc, range)
+    }
+}
+
+impl<F: AbstractFormatter> RangeWriter for UnitsRangeFormatter<F> {
+    fn write_bytes(
+        &self,
+        alloc: Global,
+        range: &DecimalRange,
+        out: &mut Vec<u8>,
+    ) -> Result<(), FormatError> {
+        self.write_into(alloc, range, out)
+    }
+
+    fn write_parts(
+        &self,
+        alloc: Global,
+        range: &DecimalRange,
+        sink: &mut PartsText,
+    ) -> Result<(), FormatError> {
+        self.write(alloc, range, sink)
+    }
+
+    fn range_text(&self, alloc: Global, range: &DecimalRange) -> Result<String, FormatError> {
+        self.write_to_string(alloc, range)
+    }
+}
+
+impl<F: AbstractFormatter> RangeWriter for LongCurrencyRangeFormatter<F> {
     fn write_bytes(
         &self,
         alloc: Global,

@@ -1,0 +1,5 @@
+pub mod Values
+pub mod Recordings
+pub mod PluralStyle
+pub mod UnitRanges
+pub mod NameRanges
