@@ -169,7 +169,8 @@ judge_range 2 '' 'locnum: word 1: 5..3: the start is above the end' 5..3 7
 judge_range 2 '1\n' 'locnum: word 2: x..3: the start: not a decimal' 1 x..3
 judge_range 2 '3..y\n1\n' 'locnum: word 1: 3..y: the end: not a decimal' --invalid fail 3..y 1
 judge_range 0 '5..3\n' '' --invalid ignore 5..3
-judge_range 2 '' 'locnum: word 1: 1..2: no ranges of these numbers with a unit or a name' --currency USD --width name 1..2
+judge_range 0 '1.00\xe2\x80\x932.00 US dollars\n' '' --currency USD --width name 1..2
+judge_range 2 '' 'locnum: word 1: 1..2: no ranges of these numbers with a unit or a name' --style long --currency USD --width name 1..2
 judge_range 2 '' 'locnum: word 1: 1..: not a decimal' 1..
 
 ran "$program" ''

@@ -5,13 +5,15 @@ use crate::streams::Streams;
 use crate::tables::TablesFile;
 use crate::words::{nothing, run_words};
 use icu_decimal_options::preferences::DecimalFormatterPreferences;
+use icu_plurals::PluralRulesPreferences;
 use icu_provider::DataErrorKind;
 use icu_range_tables::{RangeTables, TableError};
-use icu_ranges::{RangeIdentityFallback, RangePattern, RangeStyle};
+use icu_ranges::{PluralRanges, RangeIdentityFallback, RangePattern, RangeStyle};
+use icu_unit_ranges::PluralRangeStyle;
 use itoa::Buffer;
 use locnum_lines::{LineSettings, Refusals, Report, RunError, push_padded};
 use number_forms::{Form, Settings, StartError, push_reported};
-use number_ranges::{RangeTextError, push_range};
+use number_ranges::{RangeTextError, push_plural_range};
 use std::alloc::{AllocError, Global};
 use std::io::Write;
 use std::str;
@@ -54,17 +56,56 @@ fn pattern_in(
     }
 }
 
-/// The pattern of ranges in a file of tables.
-fn pattern_of(
+/// The categories of ranges of tables of ranges for the locale; none where the tables have none.
+fn plural_ranges_in(
+    alloc: Global,
+    tables: &RangeTables,
+    settings: &Settings<'_>,
+) -> Result<PluralRanges, StartError> {
+    let prefs = PluralRulesPreferences {
+        locale_preferences: settings.locale,
+    };
+    match PluralRanges::try_new_unstable(alloc, tables, prefs) {
+        Ok(ranges) => Ok(ranges),
+        Err(error) => match error.kind {
+            DataErrorKind::OutOfMemory => Err(StartError::OutOfMemory),
+            _ => Ok(PluralRanges::empty(alloc)),
+        },
+    }
+}
+
+/// What tables say of ranges for the locale and the numbering system.
+#[derive(Drop)]
+struct RangeData {
+    pattern: RangePattern,
+    plural_ranges: PluralRanges,
+}
+
+/// What tables of ranges say of ranges for the locale and the numbering system.
+fn data_in(
+    alloc: Global,
+    tables: &RangeTables,
+    settings: &Settings<'_>,
+) -> Result<RangeData, StartError> {
+    let pattern = pattern_in(alloc, tables, settings)?;
+    let plural_ranges = plural_ranges_in(alloc, tables, settings)?;
+    Ok(RangeData {
+        pattern,
+        plural_ranges,
+    })
+}
+
+/// What a file of tables says of ranges.
+fn data_of(
     alloc: Global,
     file: &[u8],
     settings: &Settings<'_>,
-) -> Result<RangePattern, StartError> {
+) -> Result<RangeData, StartError> {
     let Ok(text) = str::from_utf8(file) else {
         return Err(StartError::NotUtf8);
     };
     match RangeTables::from_json(alloc, text) {
-        Ok(tables) => pattern_in(alloc, &tables, settings),
+        Ok(tables) => data_in(alloc, &tables, settings),
         Err(TableError::OutOfMemory) => Err(StartError::OutOfMemory),
         Err(error) => Err(StartError::Refused(error)),
     }
@@ -160,13 +201,13 @@ pub(crate) fn run_range(
     streams: &mut Streams,
     settings: &LineSettings,
     form: &Form,
-    style: &RangeStyle<'_>,
+    style: &PluralRangeStyle<'_>,
     number: u64,
     word: &str,
     (start, end): (&str, &str),
 ) -> Result<Report, RunError> {
     let mut text = Vec::new(alloc);
-    match push_range(
+    match push_plural_range(
         alloc,
         form,
         style,
@@ -184,16 +225,19 @@ pub(crate) fn run_range(
 }
 
 /// Runs words some of which are ranges; the status.
-fn run_by_pattern(
+fn run_by_data(
     rt: &HostRuntime,
     mut lines: LineSettings,
-    pattern: &RangePattern,
+    data: &RangeData,
     form: &Form,
     words: &[&str],
 ) -> u8 {
-    let style = RangeStyle {
-        pattern,
-        fallback: RangeIdentityFallback::SingleValue,
+    let style = PluralRangeStyle {
+        style: RangeStyle {
+            pattern: &data.pattern,
+            fallback: RangeIdentityFallback::SingleValue,
+        },
+        plural_ranges: &data.plural_ranges,
     };
     let mut streams = Streams::new(rt);
     let ran = run_words(rt, &mut streams, &mut lines, form, Some(&style), words);
@@ -203,8 +247,8 @@ fn run_by_pattern(
     status_of_run(lines.refusals, streams.is_reader_gone(), &ran)
 }
 
-/// Runs words some of which are ranges by the pattern in a file of tables; the status, or why there
-/// is no such pattern.
+/// Runs words some of which are ranges by what a file of tables says of ranges; the status, or why
+/// it has no pattern of ranges.
 pub(crate) fn run_ranges(
     rt: &HostRuntime,
     settings: &Settings<'_>,
@@ -213,6 +257,6 @@ pub(crate) fn run_ranges(
     form: &Form,
     words: &[&str],
 ) -> Result<u8, StartError> {
-    let pattern = pattern_of(rt.alloc(), file.bytes, settings)?;
-    Ok(run_by_pattern(rt, lines, &pattern, form, words))
+    let data = data_of(rt.alloc(), file.bytes, settings)?;
+    Ok(run_by_data(rt, lines, &data, form, words))
 }

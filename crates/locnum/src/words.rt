@@ -3,7 +3,7 @@
 use crate::ranges::{ends_of, run_range};
 use crate::streams::Streams;
 use clap::ArgMatches;
-use icu_ranges::RangeStyle;
+use icu_unit_ranges::PluralRangeStyle;
 use locnum_lines::{LineSettings, Refusals, Report, RunError, Source, run};
 use number_forms::Form;
 use std::alloc::{AllocError, Global};
@@ -106,7 +106,7 @@ fn run_word_or_range(
     streams: &mut Streams,
     settings: &LineSettings,
     form: &Form,
-    style: Option<&RangeStyle<'_>>,
+    style: Option<&PluralRangeStyle<'_>>,
     number: u64,
     word: &str,
 ) -> Result<Report, RunError> {
@@ -149,7 +149,7 @@ pub(crate) fn run_words(
     streams: &mut Streams,
     settings: &mut LineSettings,
     form: &Form,
-    style: Option<&RangeStyle<'_>>,
+    style: Option<&PluralRangeStyle<'_>>,
     words: &[&str],
 ) -> Result<Report, RunError> {
     settings.header = 0;

@@ -216,6 +216,7 @@ fn question_of<'a>(call: &str, words: &'a [String]) -> Option<Question<'a>> {
         [] => question_alone(call),
         [word] => question_by(call, word.as_str()),
         _ if call == "range" => Some(Question::Ranged(AskedRange::of(words)?)),
+        _ if call == "plural_range" => Some(Question::Ranged(AskedRange::by_category(words)?)),
         _ => Some(Question::Explained(Explained::of(call, words)?)),
     }
 }

@@ -2,15 +2,21 @@
 
 use crate::CallResult;
 use crate::bytes::{bytes_of, text_of};
-use icu_ranges::{RangeIdentityFallback, RangePattern, RangePatternError, RangeStyle};
+use icu_plurals::PluralCategory;
+use icu_ranges::{
+    PluralRange, PluralRanges, PluralRangesError, RangeIdentityFallback, RangePattern,
+    RangePatternError, RangeStyle,
+};
+use icu_unit_ranges::PluralRangeStyle;
 use number_forms::Form;
-use number_ranges::{RangeTextError, push_range};
+use number_ranges::{RangeTextError, push_plural_range, push_range};
 use std::alloc::{AllocError, Global};
 
-/// Two texts, and what stands between them.
+/// Two texts, what stands between them, and an entry of categories of ranges, if they have some.
 #[derive(Clone, Copy)]
 pub(crate) struct AskedRange<'a> {
     pattern: &'a str,
+    entries: Option<&'a str>,
     start: &'a str,
     end: &'a str,
 }
@@ -21,6 +27,21 @@ impl<'a> AskedRange<'a> {
         match words {
             [pattern, start, end] => Some(AskedRange {
                 pattern: pattern.as_str(),
+                entries: None,
+                start: start.as_str(),
+                end: end.as_str(),
+            }),
+            _ => None,
+        }
+    }
+
+    /// What is asked by four words: the pattern, an entry of categories or nothing, the start and
+    /// the end.
+    pub(crate) fn by_category(words: &'a [String]) -> Option<AskedRange<'a>> {
+        match words {
+            [pattern, entries, start, end] => Some(AskedRange {
+                pattern: pattern.as_str(),
+                entries: Some(entries.as_str()),
                 start: start.as_str(),
                 end: end.as_str(),
             }),
@@ -56,6 +77,99 @@ fn pushed(
     }
 }
 
+/// The category of a name.
+fn category_of(name: &str) -> Option<PluralCategory> {
+    match name {
+        "zero" => Some(PluralCategory::Zero),
+        "one" => Some(PluralCategory::One),
+        "two" => Some(PluralCategory::Two),
+        "few" => Some(PluralCategory::Few),
+        "many" => Some(PluralCategory::Many),
+        "other" => Some(PluralCategory::Other),
+        _ => None,
+    }
+}
+
+/// The entry of `START,END,RESULT`.
+fn entry_of(text: &str) -> Option<PluralRange> {
+    let (start, rest) = text.split_once(',')?;
+    let (end, result) = rest.split_once(',')?;
+    Some(PluralRange {
+        start: category_of(start)?,
+        end: category_of(end)?,
+        result: category_of(result)?,
+    })
+}
+
+/// The categories of ranges of a text of one entry, or of none.
+fn categories_of(alloc: Global, text: &str) -> Result<Option<PluralRanges>, AllocError> {
+    if text.is_empty() {
+        return Ok(Some(PluralRanges::empty(alloc)));
+    }
+    let Some(entry) = entry_of(text) else {
+        return Ok(None);
+    };
+    match PluralRanges::try_new(alloc, &[entry]) {
+        Ok(ranges) => Ok(Some(ranges)),
+        Err(PluralRangesError::OutOfMemory) => Err(AllocError),
+        Err(PluralRangesError::RepeatedPair) => Ok(None),
+    }
+}
+
+/// What `push_plural_range` answers; in front of an error stands what was written anyway.
+fn pushed_by_category(
+    alloc: Global,
+    form: &Form,
+    style: &PluralRangeStyle<'_>,
+    start: &[u8],
+    end: &[u8],
+) -> CallResult {
+    let mut out = Vec::new(alloc);
+    match push_plural_range(alloc, form, style, start, end, &mut out) {
+        Ok(()) => Ok(Some(text_of(alloc, &out)?)),
+        Err(error) if out.is_empty() => not_ranged(alloc, error),
+        Err(RangeTextError::OutOfMemory) => Err(AllocError),
+        Err(_) => Ok(Some(text_of(alloc, &out)?)),
+    }
+}
+
+/// What a form writes for a range in a style, by categories if there are some.
+fn in_style(
+    alloc: Global,
+    form: &Form,
+    style: RangeStyle<'_>,
+    categories: Option<&PluralRanges>,
+    asked: AskedRange<'_>,
+) -> CallResult {
+    let (start, end) = (bytes_of(alloc, asked.start)?, bytes_of(alloc, asked.end)?);
+    match categories {
+        Some(plural_ranges) => {
+            let style = PluralRangeStyle {
+                style,
+                plural_ranges,
+            };
+            pushed_by_category(alloc, form, &style, &start, &end)
+        }
+        None => pushed(alloc, form, &style, &start, &end),
+    }
+}
+
+/// What a form writes for a range in a style, by the categories of a word if there is one.
+fn by_categories(
+    alloc: Global,
+    form: &Form,
+    style: RangeStyle<'_>,
+    asked: AskedRange<'_>,
+) -> CallResult {
+    let Some(entries) = asked.entries else {
+        return in_style(alloc, form, style, None, asked);
+    };
+    match categories_of(alloc, entries)? {
+        Some(categories) => in_style(alloc, form, style, Some(&categories), asked),
+        None => Ok(None),
+    }
+}
+
 /// What a form writes for a range.
 pub(crate) fn ranged(alloc: Global, form: &Form, asked: AskedRange<'_>) -> CallResult {
     let pattern = match RangePattern::parse(alloc, asked.pattern) {
@@ -67,6 +181,5 @@ pub(crate) fn ranged(alloc: Global, form: &Form, asked: AskedRange<'_>) -> CallR
         pattern: &pattern,
         fallback: RangeIdentityFallback::SingleValue,
     };
-    let (start, end) = (bytes_of(alloc, asked.start)?, bytes_of(alloc, asked.end)?);
-    pushed(alloc, form, &style, &start, &end)
+    by_categories(alloc, form, style, asked)
 }
