@@ -176,7 +176,7 @@ def refusal(status: int, words: List[str], tables: bytes = b"") -> Exception:
     if status == WORDS_REFUSED:
         return WordsRefused(f"no such locale, system, style or grouping: {' '.join(filter(None, words))}")
     if status == TABLES_REFUSED:
-        return TablesRefused(f"the tables are refused: {_library.fault(tables)}")
+        return TablesRefused(f"the tables are refused: {_library.fault(tables) or 'a fault outside of their numbers'}")
     if status == NO_DATA:
         return NoData(f"the tables don't say what a formatter of {words[0]} needs")
     if status == NO_PATTERN:
