@@ -80,11 +80,7 @@ fn pattern_in(
     ensures { StartsForm result (pattern_in settings.now text.now) }
 {
     let tables = tables_in(alloc, text)?;
-    started(RangePattern::try_new_unstable(
-        alloc,
-        &tables,
-        preferences(settings),
-    ))
+    started(RangePattern::try_new_unstable(alloc, &tables, preferences(settings)))
 }
 
 /// The pattern in the bytes of a file of tables.
