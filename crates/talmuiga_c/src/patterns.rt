@@ -7,7 +7,7 @@ ghost use Rattle.icu_ranges.specs.Separator.{Separator};
 ghost use Rattle.number_forms.specs.Loaded.{preferences};
 ghost use Rattle.number_forms.specs.Making.{StartsForm, StopsForm, read_then, start_error, started, table_error};
 ghost use Rattle.number_forms.specs.declared.error.StartError.{StartError};
-ghost use Rattle.talmuiga_c.specs.Patterns.{pattern_asked, pattern_in};
+ghost use Rattle.talmuiga_c.specs.Patterns.{pattern_asked, pattern_in, pattern_loaded};
 
 use crate::asked::text_in;
 use icu_decimal_options::preferences::DecimalFormatterPreferences;
@@ -47,6 +47,17 @@ fn preferences(settings: &Settings<'_>) -> DecimalFormatterPreferences
     }
 }
 
+/// The pattern of tables for the locale and the numbering system of settings.
+fn load_pattern(
+    alloc: Global,
+    tables: &RangeTables,
+    settings: &Settings<'_>,
+) -> Result<RangePattern, DataError>
+    ensures { Answers result (pattern_loaded settings.now tables.now) }
+{
+    RangePattern::try_new_unstable(alloc, tables, preferences(settings))
+}
+
 /// The pattern that tables answer, or why there is none.
 fn started(loaded: Result<RangePattern, DataError>) -> Result<RangePattern, StartError>
     ensures { (answer : Result Separator Refusal) → Answers loaded answer → StartsForm result
@@ -80,7 +91,7 @@ fn pattern_in(
     ensures { StartsForm result (pattern_in settings.now text.now) }
 {
     let tables = tables_in(alloc, text)?;
-    started(RangePattern::try_new_unstable(alloc, &tables, preferences(settings)))
+    started(load_pattern(alloc, &tables, settings))
 }
 
 /// The pattern in the bytes of a file of tables.

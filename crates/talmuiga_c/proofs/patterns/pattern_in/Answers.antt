@@ -12,4 +12,4 @@ returns-in_err-tables c =
 pub returns : goal.returns
 returns c =
     rw c.in_ok-tables.ensures.tables
-    (c.started.ensures (pattern_loaded c.args.settings.now c.in_ok-tables.tables) c.try_new_unstable.ensures)
+    (c.started.ensures (pattern_loaded c.args.settings.now c.in_ok-tables.tables) c.load_pattern.ensures)
