@@ -70,7 +70,8 @@ same-kind s (counted.Named name) = with_patterns s name (patterns_set s.width)
 
 -- settings that have the same form and the same range pattern by all tables
 abbrev pub SameBoth : FormSettings → FormSettings → Type 0
-SameBoth x y = ((tables : List ℕ) → form_asked x tables ≡ form_asked y tables) × ((tables : List ℕ) → pattern_asked x tables ≡ pattern_asked y tables)
+SameBoth x y =
+    ((tables : List ℕ) → form_asked x tables ≡ form_asked y tables) × ((tables : List ℕ) → pattern_asked x tables ≡ pattern_asked y tables)
 
 -- the same, if there are settings
 abbrev pub SameForms : Result FormSettings Unsupported → Result FormSettings Unsupported → Type 0

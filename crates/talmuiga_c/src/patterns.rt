@@ -12,8 +12,9 @@ ghost use Rattle.talmuiga_c.specs.Patterns.{pattern_asked, pattern_in, pattern_l
 use crate::asked::text_in;
 use icu_decimal_options::preferences::DecimalFormatterPreferences;
 use icu_provider::{DataError, DataErrorKind};
-use icu_range_tables::{RangeTables, TableError};
+use icu_range_tables::RangeTables;
 use icu_ranges::RangePattern;
+use icu_table_entries::TableError;
 use number_forms::{Settings, StartError};
 use std::alloc::Global;
 
