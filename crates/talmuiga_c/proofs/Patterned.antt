@@ -1,5 +1,5 @@
 -- Calls that end where the range pattern of tables is found, or isn't, and where a range is written, or isn't.
-use Rattle.std.proofs.Common.{◌≡◌, ℕ, List, Ok, Err, refl, sym, ap, inl, inr}
+use Rattle.std.proofs.Common.{◌≡◌, ℕ, List, Ok, Err, refl, ap, inl, inr}
 use Rattle.std.specs.Prelude.{Option, Result}
 use Rattle.std.specs.Str.{IsUtf8}
 use Rattle.writeable.specs.Events.{Event}
@@ -12,13 +12,12 @@ use Rattle.icu_table_entries.specs.Reading.{Fails}
 use Rattle.icu_table_entries.specs.declared.error.TableError.{TableError}
 use Rattle.icu_table_entries.specs.declared.error.TableError.TheVariants as table
 use Rattle.number_forms.specs.Forms.{FormData}
-use Rattle.number_forms.specs.Making.{StartsForm, StopsForm, read_then, start_error, started, table_error, form_of}
+use Rattle.number_forms.specs.Making.{StopsForm, read_then, start_error, started, table_error, form_of}
 use Rattle.number_forms.specs.Settings.{FormSettings}
 use Rattle.number_forms.specs.declared.error.StartError.{StartError}
 use Rattle.number_forms.specs.declared.error.StartError.TheVariants as start
 use Rattle.number_ranges.specs.WroteRange.{IsRefusal}
 use Rattle.number_ranges.specs.declared.error.RangeTextError.{RangeTextError}
-use Rattle.number_ranges.specs.declared.error.RangeTextError.TheVariants as range
 use Rattle.talmuiga_c.specs.Endings.{out_of_memory}
 use Rattle.talmuiga_c.specs.Handle.{empty}
 use Rattle.talmuiga_c.specs.Patterns.{pattern_status}

@@ -1,6 +1,6 @@
 -- A form depends on the names that a skeleton lends, and not on where these lie in memory; a range pattern doesn't depend on them.
 use Rattle.std.proofs.Common.{◌≡◌, ℕ, List, refl, sym, inl, inr}
-use Rattle.std.specs.Prelude.{◌⊎◌, Bool, true, false, Option, Some, None, option_map, Result, Ok, Err}
+use Rattle.std.specs.Prelude.{◌⊎◌, Option, Some, None, option_map, Result, Ok, Err}
 use Rattle.std.specs.Borrow.{Bor}
 use Rattle.number_forms.specs.Loaded.{unit_by_notation, unit_loaded, unit_long_loaded, unit_short_loaded}
 use Rattle.number_forms.specs.Making.{form_of}

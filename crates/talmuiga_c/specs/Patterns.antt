@@ -1,5 +1,5 @@
 -- The range pattern that settings have in tables: where a pattern is filed, and why there is none.
-use Rattle.std.specs.Prelude.{ℕ, List, Option, Some, None, Result, Ok, Err}
+use Rattle.std.specs.Prelude.{ℕ, List, Option, Some, None, Result, Err}
 use Rattle.icu_provider.specs.Answer.{Refusal}
 use Rattle.icu_decimal.specs.Loaded.{preferably}
 use Rattle.icu_decimal_options.specs.Preferences.{locale_id}
