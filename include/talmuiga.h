@@ -43,6 +43,16 @@ enum {
     TALMUIGA_SKELETON_REFUSED = 9  /* the skeleton has a fault */
 };
 
+/* How a call with ranges ends besides. */
+enum {
+    TALMUIGA_NO_PATTERN = 20,          /* the tables have no range pattern for the locale, or the formatter was opened without */
+    TALMUIGA_NO_RANGES = 21,           /* numbers with a unit or with the name of a currency have no ranges */
+    TALMUIGA_DESCENDING = 22,          /* the start is above the end */
+    TALMUIGA_END_NOT_DECIMAL = 23,     /* the text of the end isn't a decimal */
+    TALMUIGA_END_TOO_MANY_DIGITS = 24, /* it has a digit at a power of ten past the limits */
+    TALMUIGA_END_OVERFLOW = 25         /* the number to show for it has a digit at a power of ten past the limits */
+};
+
 /* Formats the lines of the input in plain English, as 1,234.5.
  *
  * With TALMUIGA_DONE the first *written bytes of the output are the output of the whole input. With
@@ -259,6 +269,36 @@ uint32_t talmuiga_formatter_parts_sized(talmuiga_formatter *formatter, const uin
                                         uint8_t *output, size_t output_len, size_t *length, talmuiga_span *spans,
                                         size_t spans_len, size_t *count);
 
+/* Opens a formatter that writes ranges too, by tables, a locale and a number skeleton. The locale's range pattern is read once, here,
+ * under the tables' key `ranges`; the functions above take the formatter as they take any other.
+ *
+ * Statuses and faults are those of talmuiga_formatter_open_skeleton_sized. Then the tables' ranges are judged, and with
+ * TALMUIGA_TABLES_REFUSED they have a fault, with TALMUIGA_NO_PATTERN no range pattern for the locale: then the formatter isn't open, and
+ * talmuiga_formatter_open_skeleton_sized opens one without ranges. The caller owes what it owes of that. */
+uint32_t talmuiga_formatter_open_ranges_sized(const uint8_t *tables, size_t tables_len, const uint8_t *locale, size_t locale_len,
+                                              const uint8_t *skeleton, size_t skeleton_len, talmuiga_fault *fault,
+                                              talmuiga_formatter *formatter);
+
+/* The same in English without tables; all is as of talmuiga_formatter_open_english_skeleton_sized. TALMUIGA_NO_PATTERN doesn't come. */
+uint32_t talmuiga_formatter_open_english_ranges_sized(const uint8_t *skeleton, size_t skeleton_len, talmuiga_fault *fault,
+                                                      talmuiga_formatter *formatter);
+
+/* Writes the range of two numbers, as 3–5 or $3.00 – $5.00: each is a decimal and nothing else, and the locale's separator stands between
+ * their texts. Equal texts are written once. The numbers are compared before they are rounded, -0 is 0, and 1.0 is 1.
+ *
+ * With TALMUIGA_DONE the first *length bytes of the output are the text of the range. With TALMUIGA_OUTPUT_TOO_SMALL the output is as it
+ * was, and *length says how long the text is. With each other status the output is as it was and *length is 0. It is, of those that apply,
+ * the first of this list, but TALMUIGA_OUT_OF_MEMORY may come in place of all but the first:
+ * - TALMUIGA_NO_PATTERN: the formatter was opened by neither of the two functions above;
+ * - TALMUIGA_NO_RANGES;
+ * - TALMUIGA_NOT_DECIMAL, TALMUIGA_TOO_MANY_DIGITS and TALMUIGA_OVERFLOW, of the start;
+ * - TALMUIGA_END_NOT_DECIMAL, TALMUIGA_END_TOO_MANY_DIGITS and TALMUIGA_END_OVERFLOW, of the end;
+ * - TALMUIGA_DESCENDING;
+ * - TALMUIGA_OVERFLOW, and then TALMUIGA_END_OVERFLOW, of a compact number that is ten to the power 32768 or more.
+ * The caller owes that the formatter is open, and may use it on several threads at once, as of talmuiga_formatter_format_sized. */
+uint32_t talmuiga_formatter_range_sized(talmuiga_formatter *formatter, const uint8_t *start, size_t start_len, const uint8_t *end,
+                                        size_t end_len, uint8_t *output, size_t output_len, size_t *length);
+
 /* Closes a formatter that is open, whose room is then the caller's again. */
 void talmuiga_formatter_close_sized(talmuiga_formatter *formatter);
 
@@ -306,6 +346,12 @@ static inline const char *talmuiga_status_text(uint32_t status) {
         case TALMUIGA_TOO_MANY_DIGITS: return "too many digits";
         case TALMUIGA_OVERFLOW: return "overflow";
         case TALMUIGA_SKELETON_REFUSED: return "skeleton refused";
+        case TALMUIGA_NO_PATTERN: return "no range pattern";
+        case TALMUIGA_NO_RANGES: return "no ranges of numbers with a unit or a name";
+        case TALMUIGA_DESCENDING: return "the start is above the end";
+        case TALMUIGA_END_NOT_DECIMAL: return "the end: not a decimal";
+        case TALMUIGA_END_TOO_MANY_DIGITS: return "the end: too many digits";
+        case TALMUIGA_END_OVERFLOW: return "the end: overflow";
         default: return "no such status";
     }
 }
@@ -473,8 +519,51 @@ static inline uint32_t talmuiga_formatter_parts(const talmuiga_formatter *format
                                           spans_len < most ? spans_len : most, count);
 }
 
+/* Makes a formatter that writes ranges too: talmuiga_formatter_open_ranges_sized as talmuiga_formatter_open_skeleton calls the other. */
+static inline uint32_t talmuiga_formatter_open_ranges(const char *tables, size_t tables_len, const char *locale,
+                                                      const char *skeleton, size_t skeleton_len,
+                                                      talmuiga_fault *fault, talmuiga_formatter **formatter) {
+    talmuiga_formatter *made = talmuiga_formatter_new();
+    talmuiga_fault found = {0, 0, 0};
+    uint32_t status = TALMUIGA_OUT_OF_MEMORY;
+    if (made) {
+        status = talmuiga_formatter_open_ranges_sized(talmuiga_bytes(tables), tables_len, talmuiga_bytes(locale),
+                                                      locale ? strlen(locale) : 0, talmuiga_bytes(skeleton),
+                                                      skeleton_len, &found, made);
+    }
+    if (fault) {
+        *fault = found;
+    }
+    return talmuiga_formatter_opened(made, status, formatter);
+}
+
+/* The same in English without tables, as talmuiga_formatter_open_english_ranges_sized. */
+static inline uint32_t talmuiga_formatter_open_english_ranges(const char *skeleton, size_t skeleton_len,
+                                                              talmuiga_fault *fault, talmuiga_formatter **formatter) {
+    talmuiga_formatter *made = talmuiga_formatter_new();
+    talmuiga_fault found = {0, 0, 0};
+    uint32_t status = TALMUIGA_OUT_OF_MEMORY;
+    if (made) {
+        status = talmuiga_formatter_open_english_ranges_sized(talmuiga_bytes(skeleton), skeleton_len, &found, made);
+    }
+    if (fault) {
+        *fault = found;
+    }
+    return talmuiga_formatter_opened(made, status, formatter);
+}
+
+/* talmuiga_formatter_range_sized, where a pointer with length 0 may be null, and the output may be longer than PTRDIFF_MAX. Any number
+ * of threads may write ranges with one formatter at once. */
+static inline uint32_t talmuiga_formatter_range(const talmuiga_formatter *formatter, const char *start, size_t start_len,
+                                                const char *end, size_t end_len, char *output, size_t output_len, size_t *length) {
+    talmuiga_formatter copy = *formatter;
+    return talmuiga_formatter_range_sized(&copy, talmuiga_bytes(start), start_len, talmuiga_bytes(end), end_len,
+                                          talmuiga_room(output), talmuiga_room_len(output_len), length);
+}
+
 /* Closes and frees a formatter that was made by talmuiga_formatter_open, talmuiga_formatter_open_skeleton,
- * talmuiga_formatter_open_english or talmuiga_formatter_open_english_skeleton; null is closed already. */
+ * talmuiga_formatter_open_english, talmuiga_formatter_open_english_skeleton, talmuiga_formatter_open_ranges or
+ * talmuiga_formatter_open_english_ranges; null is closed already. */
 static inline void talmuiga_formatter_close(talmuiga_formatter *formatter) {
     if (formatter) {
         talmuiga_formatter_close_sized(formatter);

@@ -47,6 +47,10 @@ struct skeleton {
     std::string_view text;
 };
 
+/* Asks for a formatter that writes ranges too. */
+struct with_ranges_t {};
+inline constexpr with_ranges_t with_ranges{};
+
 /* The canonical text of a skeleton. */
 inline std::string canonical(skeleton asked) {
     std::string text(asked.text.size() * 2 + 64, '\0');
@@ -151,6 +155,28 @@ public:
         held_.reset(made);
     }
 
+    /* By tables, a locale and a number skeleton, for ranges too: talmuiga::formatter(tables, "de", asked, talmuiga::with_ranges). */
+    formatter(std::string_view tables, const std::string &locale, skeleton asked, with_ranges_t) {
+        talmuiga_formatter *made;
+        talmuiga_fault fault;
+        std::uint32_t status = talmuiga_formatter_open_ranges(tables.data(), tables.size(), locale.c_str(), asked.text.data(),
+                                                              asked.text.size(), &fault, &made);
+        if (status == TALMUIGA_SKELETON_REFUSED) throw skeleton_refused(fault);
+        judge(status);
+        held_.reset(made);
+    }
+
+    /* The same in English, without tables. */
+    formatter(skeleton asked, with_ranges_t) {
+        talmuiga_formatter *made;
+        talmuiga_fault fault;
+        std::uint32_t status =
+            talmuiga_formatter_open_english_ranges(asked.text.data(), asked.text.size(), &fault, &made);
+        if (status == TALMUIGA_SKELETON_REFUSED) throw skeleton_refused(fault);
+        judge(status);
+        held_.reset(made);
+    }
+
     /* The text of one number. */
     std::string operator()(std::string_view number) const { return one(number); }
 
@@ -183,6 +209,21 @@ public:
             if (status != TALMUIGA_OUTPUT_TOO_SMALL) {
                 judge(status);
                 return marked;
+            }
+        }
+    }
+
+    /* The text of the range of two numbers, by a formatter that was made with_ranges. */
+    std::string range(std::string_view start, std::string_view end) const {
+        std::string text((start.size() + end.size()) * 4 + 64, '\0');
+        for (;;) {
+            std::size_t length;
+            std::uint32_t status = talmuiga_formatter_range(held_.get(), start.data(), start.size(), end.data(), end.size(),
+                                                            text.data(), text.size(), &length);
+            text.resize(length);
+            if (status != TALMUIGA_OUTPUT_TOO_SMALL) {
+                judge(status);
+                return text;
             }
         }
     }

@@ -35,7 +35,8 @@ build_after_ci() {
     for library in "$root"/crates/*/out/rlib; do
         words+=(-L "dependency=$library")
     done
-    for name in decimal_lines icu_provider icu_table_entries icu_tables number_forms number_skeleton skeleton_settings writeable; do
+    for name in decimal_lines icu_decimal icu_decimal_options icu_provider icu_range_tables icu_ranges icu_table_entries icu_tables \
+        number_forms number_ranges number_skeleton skeleton_settings writeable; do
         words+=(--extern "$name=$root/crates/$name/out/rlib/$name.rlib")
     done
     (cd crates/talmuiga_c && "$kit/bin/rattle" build --crate-name talmuiga_c src/lib.rt --crate-type staticlib \
@@ -342,6 +343,8 @@ if is_there "${compiler[0]}"; then
     builds skeletons tests/c_skeletons.c "$folder/libtalmuiga.a" -O1 -g -fsanitize=address,undefined
     judge 'C: rows of skeletons' "$folder/skeletons" tables/six_locales.json tables/english.json \
         crates/rows_reports/data/numbers.json
+    builds ranges tests/c_ranges.c "$folder/libtalmuiga.a" -O1 -g -fsanitize=address,undefined -pthread
+    judge 'C: ranges' "$folder/ranges" tables/six_locales.json tables/english.json crates/rows_reports/data/numbers.json
     for sanitizer in address,undefined thread; do
         judge "C: tests/c_hostile.c builds with ${sanitizer}" "${compiler[@]}" -std=gnu11 -O1 -g -Wall -Wextra -Wcast-qual -Werror \
             "-fsanitize=$sanitizer" -pthread -Iinclude tests/c_hostile.c "$folder/libtalmuiga.a" -o "$folder/hostile"
@@ -414,6 +417,25 @@ if is_there sqlite3 && [ -e /usr/include/sqlite3ext.h ]; then
     in_sql '1.234.567' "SELECT number_format(1234567, 'de', 'group-thousands')" tables/six_locales.json
     in_sql 'Error: stepping, not a decimal' "SELECT number_format('x', 'de', 'currency/EUR')" tables/six_locales.json
     in_sql 'Error: stepping, no data' "SELECT number_format(5, 'de', 'currency/USD')" tables/six_locales.json
+    # six locales with the range patterns of two
+    sed '$ s/}$/, "ranges": [{"locale": "en", "pattern": "{0}–{1}"}, {"locale": "de", "pattern": "{0}–{1}"}]}/' \
+        tables/six_locales.json >"$folder/ranges.json"
+    in_sql $'-5,00\u00a0€ – 1.650,00\u00a0€|3–5|3|900 – 2K||' "CREATE TABLE sales(price); INSERT INTO sales VALUES(1650),(NULL),(-5);
+        SELECT number_range_format(min(price), max(price), 'de', 'currency/EUR'), number_range_format(3, '5', 'en', ''),
+        number_range_format(3, 3, 'en', ''), number_range_format(900, 2000, 'en', 'K'), number_range_format(3, NULL, 'en', ''),
+        number_range_format(NULL, 'x', 'en', '') FROM sales" "$folder/ranges.json"
+    in_sql $'3\n3–5\n3–5' "SELECT number_format(3, 'en', '') UNION ALL SELECT number_range_format(3, 5, 'en', '')
+        UNION ALL SELECT number_range_format(3, 5, 'en', '')" "$folder/ranges.json"
+    in_sql 'Error: stepping, the start is above the end' "SELECT number_range_format(5, 3, 'de', '')" "$folder/ranges.json"
+    in_sql 'Error: stepping, not a decimal' "SELECT number_range_format('x', 'y', 'de', '')" "$folder/ranges.json"
+    in_sql 'Error: stepping, the end: not a decimal' "SELECT number_range_format(3, 'y', 'de', '')" "$folder/ranges.json"
+    in_sql 'Error: stepping, the end: not a decimal' "SELECT number_range_format(3, x'35', 'de', '')" "$folder/ranges.json"
+    in_sql 'Error: stepping, no range pattern' "SELECT number_range_format(3, 5, 'fr', '')" "$folder/ranges.json"
+    in_sql 'Error: stepping, no range pattern' "SELECT number_range_format(3, 5, 'de', '')" tables/six_locales.json
+    in_sql 'Error: stepping, no data' "SELECT number_range_format(3, 5, 'xx', '')" "$folder/ranges.json"
+    in_sql 'Error: stepping, skeleton: unknown stem, byte 2' "SELECT number_range_format(3, 5, 'de', '% foo')" "$folder/ranges.json"
+    in_sql 'Error: stepping, no ranges of numbers with a unit or a name' \
+        "SELECT number_range_format(3, 5, 'en', 'currency/EUR unit-width-full-name')" "$folder/ranges.json"
     # SQLite has no NaN: it is NULL
     in_sql '|' "SELECT number_format(9e999 - 9e999, 'de', ''), decfmt(0.0 / 0, 'en')" tables/six_locales.json
     in_sql 'Error: stepping, not a decimal' "SELECT number_format(9e999, 'de', '')" tables/six_locales.json

@@ -1,7 +1,7 @@
 /* Formatters that are kept, where one allocation finds no memory (tests/refuse_nth.c, loaded before): by the tables of the
- * first word one is opened by words and one by a skeleton, each formats lines, one number and its parts, and is closed; then
- * other tables are judged and listed, and a canonical text is written. What was refused is asked once more, and then all is as ever; where
- * it was refused nothing else is told. The tables lie in memory of their own, which isn't refused. */
+ * first word one is opened by words and one by a skeleton, each formats lines, one number and its parts, and is closed; a third one, in
+ * English, writes a range. Then other tables are judged and listed, and a canonical text is written. What was refused is asked once more,
+ * and then all is as ever; where it was refused nothing else is told. The tables lie in memory of their own, which isn't refused. */
 #include "talmuiga.h"
 
 #include <stdio.h>
@@ -50,6 +50,26 @@ static int formats(size_t len, int by_skeleton) {
     return 0;
 }
 
+/* Writes a range by a formatter in English; 0, or another status of this program. */
+static int writes_range(void) {
+    size_t length;
+    talmuiga_formatter *formatter;
+    talmuiga_fault fault = {7, 7, 7};
+    uint32_t status = talmuiga_formatter_open_english_ranges("K", 1, &fault, &formatter);
+    if (fault.byte || fault.kind || fault.thing) return 10;
+    if (status == TALMUIGA_OUT_OF_MEMORY && !formatter) status = talmuiga_formatter_open_english_ranges("K", 1, &fault, &formatter);
+    if (status) return 11;
+    memcpy(output, "xx", 2);
+    status = talmuiga_formatter_range(formatter, "1650", 4, "1750000", 7, output, sizeof output, &length);
+    if (status == TALMUIGA_OUT_OF_MEMORY && length == 0 && output[0] == 'x') {
+        status = talmuiga_formatter_range(formatter, "1650", 4, "1750000", 7, output, sizeof output, &length);
+    }
+    static const char range[] = "1.6K – 1.8M";
+    if (status || length != sizeof range - 1 || memcmp(output, range, length)) return 12;
+    talmuiga_formatter_close(formatter);
+    return 0;
+}
+
 int main(int count, char **words) {
     FILE *file = count > 1 ? fopen(words[1], "rb") : NULL;
     if (!file) return 2;
@@ -59,6 +79,8 @@ int main(int count, char **words) {
         int wrong = formats(len, by_skeleton);
         if (wrong) return wrong;
     }
+    int no_range = writes_range();
+    if (no_range) return no_range;
     memcpy(output, "xx", 2);
     uint32_t status = talmuiga_tables_fault("{", 1, output, sizeof output, &length);
     if (status == TALMUIGA_OUT_OF_MEMORY && length == 0 && output[0] == 'x') {

@@ -47,6 +47,29 @@ static std::string bracketed(const talmuiga::marked_text &marked) {
     return out.str();
 }
 
+/* Ranges by skeletons. */
+static void as_ranges(const std::string &tables) {
+    using talmuiga::skeleton;
+    using talmuiga::with_ranges;
+    const std::string german = tables.substr(0, tables.rfind('}')) + ",\"ranges\":[{\"locale\":\"de\",\"pattern\":\"{0}–{1}\"}]}";
+    talmuiga::formatter prices(german, "de", skeleton{"currency/EUR"}, with_ranges);
+    const talmuiga::formatter plain(skeleton{""}, with_ranges), short_ones(skeleton{"K"}, with_ranges), without(skeleton{""});
+    judge("a range", plain.range("3", "5") == "3–5" && plain.range("-3", "5") == "-3 – 5");
+    judge("a range of prices", prices.range("3", "5") == "3,00–5,00\u00a0€" && prices("3") == "3,00\u00a0€");
+    judge("a range of compact numbers", short_ones.range("900", "2000") == "900 – 2K");
+    judge("a range of equal texts", plain.range("3", "3.0") == "3");
+    const std::string many(3000, '9'), few(1500, '9');
+    judge("a long range", plain.range(few, many) == plain(few) + "–" + plain(many));
+    const auto written = [&](const char *start, const char *end) { return [&plain, start, end] { plain.range(start, end); }; };
+    judge("a descending range", refusal(written("5", "3")) == TALMUIGA_DESCENDING);
+    judge("a start that is no decimal", refusal(written("x", "y")) == TALMUIGA_NOT_DECIMAL);
+    judge("an end that is no decimal", refusal(written("3", "y")) == TALMUIGA_END_NOT_DECIMAL);
+    judge("a formatter without ranges", refusal([&] { without.range("3", "5"); }) == TALMUIGA_NO_PATTERN);
+    judge("tables without ranges", refusal([&] { talmuiga::formatter(tables, "de", skeleton{"K"}, with_ranges); }) == TALMUIGA_NO_PATTERN);
+    judge("a fault for ranges", fault_of([&] { talmuiga::formatter(german, "de", skeleton{"% %"}, with_ranges); }) == "2 4 set twice: unit");
+    judge("a fault in English for ranges", fault_of([] { talmuiga::formatter(skeleton{"foo"}, with_ranges); }) == "0 2 unknown stem");
+}
+
 /* Numbers, money and percents by skeletons. */
 static void by_skeletons(const std::string &tables) {
     using talmuiga::skeleton;
@@ -141,6 +164,7 @@ int main(int, char **words) {
     const std::string tables = whole(words[1]);
     by_skeletons(whole(words[2]));
     in_english();
+    as_ranges(whole(words[2]));
     by_names(whole(words[2]));
     on_bad_input(whole(words[2]));
     talmuiga::formatter english, moved;

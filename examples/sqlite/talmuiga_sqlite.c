@@ -1,14 +1,17 @@
-/* An extension for SQLite: decfmt(number, locale, style) is a number in the form of a locale, and
- * number_format(number, locale, skeleton) is one as a number skeleton asks for it: with a currency, say.
+/* An extension for SQLite: decfmt(number, locale, style) is a number in the form of a locale,
+ * number_format(number, locale, skeleton) is one as a number skeleton asks for it: with a currency, say, and
+ * number_range_format(start, end, locale, skeleton) is the range of two such numbers.
  *
  *     cc -O2 -fPIC -shared -Iinclude examples/sqlite/talmuiga_sqlite.c lib/libtalmuiga.a -o lib/talmuiga_sqlite.so
  *     TALMUIGA_TABLES=tables/sample.json sqlite3 sales.db
  *     sqlite> .load lib/talmuiga_sqlite
  *     sqlite> SELECT decfmt(price, 'de', 'short') FROM sales;
  *     sqlite> SELECT number_format(price, 'de', 'currency/EUR') FROM sales;
+ *     sqlite> SELECT number_range_format(min(price), max(price), 'de', 'currency/EUR') FROM sales;
  *
  * NULL is NULL, what isn't a number is an error, and so is a locale, a style or a currency that the tables don't know, and a
- * skeleton with a fault, whose words and byte the error has. Without a style it is plain. The tables are read once a
+ * skeleton with a fault, whose words and byte the error has, and a range whose start is above its end, or for whose locale the
+ * tables have no range pattern. Without a style it is plain. The tables are read once a
  * connection, from the file that TALMUIGA_TABLES names; a formatter is opened once for each locale and style or skeleton that
  * a connection asks for. A REAL is taken by SQLite's own text of it, which has to be a decimal. */
 #include <sqlite3ext.h>
@@ -20,11 +23,14 @@ SQLITE_EXTENSION_INIT1
 
 enum { LOCALE = 64, MOST_FORMATTERS = 64 };
 
+/* How a formatter is opened: by a style, by a skeleton, or by a skeleton for ranges too. */
+enum { BY_STYLE, BY_SKELETON, FOR_RANGES };
+
 /* A formatter that is open, by a locale and a style or a skeleton. */
 struct kept {
     char locale[LOCALE], *asked;
     size_t asked_len;
-    int by_skeleton;
+    int how;
     talmuiga_formatter *formatter;
 };
 
@@ -48,8 +54,8 @@ static void let_go(void *data) {
 }
 
 /* Whether a formatter is that of a locale and a style or a skeleton. */
-static int is_kept(const struct kept *kept, const char *locale, const char *asked, size_t len, int by_skeleton) {
-    return kept->by_skeleton == by_skeleton && kept->asked_len == len && strcmp(kept->locale, locale) == 0 &&
+static int is_kept(const struct kept *kept, const char *locale, const char *asked, size_t len, int how) {
+    return kept->how == how && kept->asked_len == len && strcmp(kept->locale, locale) == 0 &&
            memcmp(kept->asked, asked, len) == 0;
 }
 
@@ -66,16 +72,18 @@ static struct kept *place_for_one(struct connection *connection) {
 /* The formatter of a locale and a style or a skeleton, opened where it isn't yet; or null with the call's status, and the fault
  * of a skeleton. */
 static const talmuiga_formatter *formatter_of(struct connection *connection, const char *locale, const char *asked, size_t len,
-                                              int by_skeleton, uint32_t *status, talmuiga_fault *fault) {
+                                              int how, uint32_t *status, talmuiga_fault *fault) {
+    const char *tables = connection->tables;
+    const size_t tables_len = connection->tables_len;
     talmuiga_formatter *opened;
     for (size_t i = 0; i < connection->count; i++) {
-        if (is_kept(&connection->kept[i], locale, asked, len, by_skeleton)) return connection->kept[i].formatter;
+        if (is_kept(&connection->kept[i], locale, asked, len, how)) return connection->kept[i].formatter;
     }
-    *status = by_skeleton ? talmuiga_formatter_open_skeleton(connection->tables, connection->tables_len, locale, asked, len, fault,
-                                                             &opened)
-                          : talmuiga_formatter_open(connection->tables, connection->tables_len, locale, "-", asked, NULL, &opened);
+    *status = how == BY_STYLE      ? talmuiga_formatter_open(tables, tables_len, locale, "-", asked, NULL, &opened)
+              : how == BY_SKELETON ? talmuiga_formatter_open_skeleton(tables, tables_len, locale, asked, len, fault, &opened)
+                                   : talmuiga_formatter_open_ranges(tables, tables_len, locale, asked, len, fault, &opened);
     if (*status) return NULL;
-    struct kept kept = {"", sqlite3_malloc64(len + 1), len, by_skeleton, opened};
+    struct kept kept = {"", sqlite3_malloc64(len + 1), len, how, opened};
     if (!kept.asked) {
         *status = TALMUIGA_OUT_OF_MEMORY;
         talmuiga_formatter_close(opened);
@@ -103,17 +111,24 @@ static void refuse(sqlite3_context *context, uint32_t status, const talmuiga_fau
     }
 }
 
-static void answer(sqlite3_context *context, const talmuiga_formatter *formatter, sqlite3_value *number) {
-    const char *text = (const char *)sqlite3_value_text(number);
-    size_t len = (size_t)sqlite3_value_bytes(number), length, room = 4 * len + 64;
+/* The text of one number, or of the range of two. */
+static void answer(sqlite3_context *context, const talmuiga_formatter *formatter, int numbers, sqlite3_value **values) {
+    const char *texts[2] = {"", ""};
+    size_t lens[2] = {0, 0}, length, room = 64;
+    for (int i = 0; i < numbers; i++) {
+        texts[i] = (const char *)sqlite3_value_text(values[i]);
+        lens[i] = (size_t)sqlite3_value_bytes(values[i]);
+        room += 4 * lens[i];
+    }
     for (;;) {
         char *output = sqlite3_malloc64(room);
-        if (!text || !output) {
+        if (!texts[0] || !texts[1] || !output) {
             sqlite3_free(output);
             sqlite3_result_error_nomem(context);
             return;
         }
-        uint32_t status = talmuiga_formatter_one(formatter, text, len, output, room, &length);
+        uint32_t status = numbers == 1 ? talmuiga_formatter_one(formatter, texts[0], lens[0], output, room, &length)
+                                       : talmuiga_formatter_range(formatter, texts[0], lens[0], texts[1], lens[1], output, room, &length);
         if (status == TALMUIGA_DONE) {
             sqlite3_result_text64(context, output, length, sqlite3_free, SQLITE_UTF8);
             return;
@@ -131,35 +146,42 @@ static void answer(sqlite3_context *context, const talmuiga_formatter *formatter
     }
 }
 
-/* A number by a locale and a style or a skeleton, if it has one. */
-static void formatted(sqlite3_context *context, int count, sqlite3_value **values, int by_skeleton) {
+/* A number, or the range of two, by a locale and a style or a skeleton, if it has one. */
+static void formatted(sqlite3_context *context, int count, sqlite3_value **values, int how) {
+    const int numbers = how == FOR_RANGES ? 2 : 1;
     for (int i = 0; i < count; i++) {
         if (sqlite3_value_type(values[i]) == SQLITE_NULL) return;
     }
-    if (sqlite3_value_type(values[0]) == SQLITE_BLOB) {
-        sqlite3_result_error(context, "not a decimal", -1);
-        return;
+    for (int i = 0; i < numbers; i++) {
+        if (sqlite3_value_type(values[i]) == SQLITE_BLOB) {
+            sqlite3_result_error(context, i ? "the end: not a decimal" : "not a decimal", -1);
+            return;
+        }
     }
-    const char *locale = (const char *)sqlite3_value_text(values[1]);
-    const char *asked = count > 2 ? (const char *)sqlite3_value_text(values[2]) : "plain";
-    size_t len = count > 2 ? (size_t)sqlite3_value_bytes(values[2]) : strlen("plain");
+    const char *locale = (const char *)sqlite3_value_text(values[numbers]);
+    const char *asked = count > numbers + 1 ? (const char *)sqlite3_value_text(values[numbers + 1]) : "plain";
+    size_t len = count > numbers + 1 ? (size_t)sqlite3_value_bytes(values[numbers + 1]) : strlen("plain");
     uint32_t status = TALMUIGA_OUT_OF_MEMORY;
     talmuiga_fault fault;
     const talmuiga_formatter *formatter =
-        locale && asked ? formatter_of(sqlite3_user_data(context), locale, asked, len, by_skeleton, &status, &fault) : NULL;
+        locale && asked ? formatter_of(sqlite3_user_data(context), locale, asked, len, how, &status, &fault) : NULL;
     if (formatter) {
-        answer(context, formatter, values[0]);
+        answer(context, formatter, numbers, values);
     } else {
         refuse(context, status, &fault);
     }
 }
 
 static void decfmt(sqlite3_context *context, int count, sqlite3_value **values) {
-    formatted(context, count, values, 0);
+    formatted(context, count, values, BY_STYLE);
 }
 
 static void number_format(sqlite3_context *context, int count, sqlite3_value **values) {
-    formatted(context, count, values, 1);
+    formatted(context, count, values, BY_SKELETON);
+}
+
+static void number_range_format(sqlite3_context *context, int count, sqlite3_value **values) {
+    formatted(context, count, values, FOR_RANGES);
 }
 
 /* The whole file of a name, in SQLite's memory. */
@@ -192,6 +214,9 @@ int sqlite3_talmuigasqlite_init(sqlite3 *base, char **error, const sqlite3_api_r
     }
     if (status == SQLITE_OK) {
         status = sqlite3_create_function_v2(base, "number_format", 3, words, connection, number_format, NULL, NULL, NULL);
+    }
+    if (status == SQLITE_OK) {
+        status = sqlite3_create_function_v2(base, "number_range_format", 4, words, connection, number_range_format, NULL, NULL, NULL);
     }
     return status;
 }

@@ -19,7 +19,8 @@ from typing import Any
 
 import talmuiga
 import talmuiga.babel
-from talmuiga import Formatter, NoData, NotFormatted, Number, SkeletonRefused, TablesRefused, WordsRefused
+from talmuiga import (Descending, Formatter, NoData, NoPattern, NoRanges, NotFormatted, Number, SkeletonRefused, TablesRefused,
+                      WordsRefused)
 
 SAMPLE = open(sys.argv[1], "rb").read()
 SIX = open(sys.argv[2], "rb").read()
@@ -226,6 +227,49 @@ judge("percents", "12.3%", lambda: Formatter.english(skeleton="%x100 .0").format
 judge("Swiss francs", NoData, lambda: Formatter.english(skeleton="currency/CHF"))
 judge("a fault in English", (SkeletonRefused, 8, "unknownStem", "unknown stem"), lambda: Formatter.english(skeleton="percent foo"))
 judge("a skeleton and a fraction in English", TypeError, lambda: Formatter.english(skeleton="%", fraction=1))
+
+# Ranges, by texts of ICU 72; a compact end is written whole here, where ICU has 900–2K.
+RANGES = json.dumps({**json.loads(SIX), "ranges": [{"locale": locale, "pattern": pattern} for locale, pattern in (
+    ("en", "{0}–{1}"), ("de", "{0}–{1}"), ("ja", "{0}～{1}"))]}).encode()
+RANGE_TEXTS: list[tuple[str, str, Number, Number, str]] = [
+    ("en", "", 3, "5", "3–5"), ("en", "", -3, 5.0, "-3 – 5"), ("de", "", Decimal("1234.5"), 9999, "1.234,5–9.999"),
+    ("ja", "", 1000, 2000, "1,000～2,000"), ("de", "currency/EUR", 3, 5, "3,00–5,00\u00a0€"), ("en", "K", 900, 2000, "900 – 2K"),
+    ("de", "currency/EUR", -5, 3, "-5,00\u00a0€ – 3,00\u00a0€"), ("de", "%x100", "0.03", "0.05", "3–5\u00a0%"),
+    ("en", "", 3, "3.0", "3"), ("en", "precision-integer", "2.6", "3.4", "3")]
+for locale, skeleton, start, end, text in RANGE_TEXTS:
+    judge(f"the range {text}", text, lambda: Formatter(RANGES, locale, skeleton=skeleton, ranges=True).format_range(start, end))
+AS_RANGES = Formatter.english(skeleton="currency/USD", ranges=True)
+judge("a range in English", "$3.00 – $5.00", lambda: AS_RANGES.format_range(3, 5))
+judge("a number by a formatter of ranges", ("$3.00", ["$5.00"]), lambda: (AS_RANGES.format(3), AS_RANGES.format_many([5])))
+judge("a range with a fraction", "1.0–2.5", lambda: Formatter.english(fraction=1, ranges=True).format_range(1, 2.5))
+judge("a range longer than the first room", ("9" * 3 + ",999" * 999) + "–1" + ",000" * 1000,
+      lambda: Formatter.english(skeleton="", ranges=True).format_range("9" * 3000, 10**3000))
+judge("a descending range", Descending, lambda: AS_RANGES.format_range(5, 3))
+judge("a start that is no decimal", (NotFormatted, 0, "x", "not a decimal"), lambda: AS_RANGES.format_range("x", "y"))
+judge("an end that is no decimal", (NotFormatted, 1, "NaN", "not a decimal"), lambda: AS_RANGES.format_range(3, float("nan")))
+judge("a start with half of a pair", (NotFormatted, 0, "\ud800", "not a decimal"), lambda: AS_RANGES.format_range("\ud800", 3))
+judge("an end with half of a pair", (NotFormatted, 1, "\ud800", "not a decimal"), lambda: AS_RANGES.format_range(3, "\ud800"))
+judge("a start of too many digits", (NotFormatted, 0, "9" * 70000, "too many digits"), lambda: AS_RANGES.format_range("9" * 70000, 3))
+judge("an end of too many digits", (NotFormatted, 1, "9" * 70000, "too many digits"), lambda: AS_RANGES.format_range(3, "9" * 70000))
+judge("an end that overflows", (NotFormatted, 1, "9" * 32768, "overflow"),
+      lambda: Formatter.english(skeleton="K", ranges=True).format_range(3, "9" * 32768))
+judge("no ranges of names", NoRanges,
+      lambda: Formatter.english(skeleton="currency/USD unit-width-full-name", ranges=True).format_range(3, 5))
+judge("no pattern of a locale", NoPattern, lambda: Formatter(RANGES, "fr", skeleton="", ranges=True))
+judge("no patterns in the tables", NoPattern, lambda: Formatter(SIX, "de", skeleton="", ranges=True))
+judge("another locale for ranges", NoData, lambda: Formatter(RANGES, "xx", skeleton="", ranges=True))
+judge("a formatter without ranges", NoPattern, lambda: PRICES.format_range(3, 5))
+judge("plain English without ranges", NoPattern, lambda: ENGLISH.format_range(3, 5))
+judge("a fault in the ranges", (TablesRefused, "the tables are refused: a fault outside of their numbers"),
+      lambda: Formatter(json.dumps({**json.loads(SIX), "ranges": 0}).encode(), "de", skeleton="", ranges=True))
+judge("a fault of a skeleton for ranges", (SkeletonRefused, 8, "unknownStem", "unknown stem"),
+      lambda: Formatter(RANGES, "de", skeleton="percent foo", ranges=True))
+judge("a fault in English for ranges", (SkeletonRefused, 0, "unknownStem", "unknown stem"),
+      lambda: Formatter.english(skeleton="foo", ranges=True))
+judge("ranges without a skeleton", TypeError, lambda: Formatter(RANGES, "de", ranges=True))
+judge("English ranges without a skeleton", TypeError, lambda: Formatter.english(ranges=True))
+judge("exceptions of ranges", True, lambda: issubclass(NoPattern, talmuiga.Refused) and issubclass(Descending, ValueError)
+      and issubclass(NoRanges, ValueError))
 
 # Skeletons of ECMA-402's options.
 SKELETONS: list[tuple[dict[str, Any], str]] = [

@@ -1,5 +1,6 @@
 pub mod Answered
 pub mod Owned
+pub mod Patterned
 pub mod Reading
 pub mod SameForm
 pub mod Steps

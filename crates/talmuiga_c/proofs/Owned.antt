@@ -34,9 +34,21 @@ use Rattle.talmuiga_c.specs.contracts.kept.Kept.{the_row, the_type}
 mode-Mute : Mute (by-words.the_field.row.exit no)
 mode-Mute = Mute-variants no (variants by-words.the_type) ((Mute-flat (λ x w. refl) (λ x. tt), tt), ((Mute-flat (λ x w. refl) (λ x. tt), tt), tt))
 
--- nor has what a formatter holds
+-- nor has what a formatter holds: a mode, a form, or a form and a range pattern
 pub kept-Mute : Mute (the_row.exit yes)
-kept-Mute = enum-Mute the_type no ((mode-Mute, tt), ((Mute-flat (λ x w. refl) (λ x. tt), tt), tt))
+kept-Mute = enum-Mute the_type no (
+  (mode-Mute, tt),
+  (
+    (Mute-flat (λ x w. refl) (λ x. tt), tt),
+    (
+      (
+        Mute-flat (λ x w. refl) (λ x. tt),
+        (Mute-flat (λ x w. refl) (λ x. tt), tt),
+      ),
+      tt,
+    ),
+  ),
+)
 
 -- and so it is of each parameter that is let go, where nothing is learnt by its type
 pub told-nothing : {M : Type 1} {𝓤 : Ura M} (𝓛 : Logic 𝓤) (n : ℕ) (s : Slot n) (k : KeptAt) → ((κs : Lfts n) → Mute ((s.row κs).exit k))

@@ -1,6 +1,6 @@
--- A form depends on the names that a skeleton lends, and not on where these lie in memory.
+-- A form depends on the names that a skeleton lends, and not on where these lie in memory; a range pattern doesn't depend on them.
 use Rattle.std.proofs.Common.{◌≡◌, ℕ, List, refl, sym, inl, inr}
-use Rattle.std.specs.Prelude.{◌⊎◌, Bool, true, false, Option, Some, None, option_map, Result, Ok, Err}
+use Rattle.std.specs.Prelude.{◌⊎◌, Option, Some, None, option_map, Result, Ok, Err}
 use Rattle.std.specs.Borrow.{Bor}
 use Rattle.number_forms.specs.Loaded.{unit_by_notation, unit_loaded, unit_long_loaded, unit_short_loaded}
 use Rattle.number_forms.specs.Making.{form_of}
@@ -19,6 +19,7 @@ use Rattle.skeleton_settings.specs.declared.settings.NumberUnit.{NumberUnit}
 use Rattle.skeleton_settings.specs.declared.settings.NumberUnit.TheVariants as counted
 use Rattle.skeleton_settings.specs.declared.settings.Precision.{Precision}
 use Rattle.skeleton_settings.specs.declared.settings.Skeleton.{Skeleton}
+use Rattle.talmuiga_c.specs.Patterns.{pattern_asked}
 use Rattle.talmuiga_c.specs.Skeletons.{form_asked, lent, lent_skeleton, lent_unit}
 
 -- the skeleton with its names lent from elsewhere
@@ -67,18 +68,22 @@ same-kind s counted.Permille = inl refl
 same-kind s (counted.Currency letters) = inl refl
 same-kind s (counted.Named name) = with_patterns s name (patterns_set s.width)
 
--- settings that have the same form by all tables
+-- settings that have the same form and the same range pattern by all tables
+abbrev pub SameBoth : FormSettings → FormSettings → Type 0
+SameBoth x y =
+    ((tables : List ℕ) → form_asked x tables ≡ form_asked y tables) × ((tables : List ℕ) → pattern_asked x tables ≡ pattern_asked y tables)
+
+-- the same, if there are settings
 abbrev pub SameForms : Result FormSettings Unsupported → Result FormSettings Unsupported → Type 0
-SameForms (Ok x) (Ok y) = (tables : List ℕ) → form_asked x tables ≡ form_asked y tables
+SameForms (Ok x) (Ok y) = SameBoth x y
 SameForms (Ok x) (Err b) = ⊥
 SameForms (Err a) (Ok y) = ⊥
 SameForms (Err a) (Err b) = a ≡ b
 
 -- settings of a system and a kind
 module _ (with_kind : Option (List ℕ) → Kind → FormSettings)
-    (elsewhere : (o : Option (List ℕ)) (name : Bor (List ℕ)) (w : patterns.UnitWidth) (n : Notation) (tables : List ℕ)
-    → form_asked (with_kind o (WithUnit (unit.Named name) w n)) tables
-    ≡ form_asked (with_kind o (WithUnit (unit.Named (lent name.now)) w n)) tables) where
+    (elsewhere : (o : Option (List ℕ)) (name : Bor (List ℕ)) (w : patterns.UnitWidth) (n : Notation)
+    → SameBoth (with_kind o (WithUnit (unit.Named name) w n)) (with_kind o (WithUnit (unit.Named (lent name.now)) w n))) where
   abbrev with_both : Result (Option (List ℕ)) Unsupported → Result Kind Unsupported → Result FormSettings Unsupported
   with_both system kind = do
     o ← system
@@ -91,7 +96,7 @@ module _ (with_kind : Option (List ℕ) → Kind → FormSettings)
   same (Ok o) k l (inl e) = rw e (go l)
     where
       go : (l : Result Kind Unsupported) → SameForms (with_both (Ok o) l) (with_both (Ok o) l)
-      go (Ok kind) = λ tables. refl
+      go (Ok kind) = ((λ tables. refl), (λ tables. refl))
       go (Err x) = refl
   same (Ok o) k l (inr (name, w, n, (e, f))) = rw (e, f) (elsewhere o name w n)
 
@@ -118,6 +123,16 @@ same-unit x name w Simple tables = refl
 same-unit x name w CompactShort tables = refl
 same-unit x name w CompactLong tables = refl
 
+-- the range pattern, which no unit changes
+same-pattern : (x : FormSettings) (k l : Kind) (tables : List ℕ) → pattern_asked (with_kind x k) tables ≡ pattern_asked (with_kind x l) tables
+unfolding pattern_asked
+same-pattern x k l tables = refl
+
+-- both
+same-both : (x : FormSettings) (name : Bor (List ℕ)) (w : patterns.UnitWidth) (n : Notation)
+    → SameBoth (with_kind x (WithUnit (unit.Named name) w n)) (with_kind x (WithUnit (unit.Named (lent name.now)) w n))
+same-both x name w n = (same-unit x name w n, same-pattern x (WithUnit (unit.Named name) w n) (WithUnit (unit.Named (lent name.now)) w n))
+
 -- the settings of a skeleton, wherever its names lie
 pub same-settings : (locale : List ℕ) (s : Skeleton) → SameForms (settings_of locale s) (settings_of locale (moved s))
 unfolding settings_of
@@ -133,7 +148,7 @@ same-settings locale s = rw (sym (same-system s.system), sym (same-precision s s
       scale = s.scale;
       sign = s.sign;
       kind = k;
-    }) (λ o name w n tables. same-unit (record {
+    }) (λ o name w n. same-both (record {
       locale = locale;
       system = o;
       grouping = grouping_set s.grouping;
@@ -144,4 +159,4 @@ same-settings locale s = rw (sym (same-system s.system), sym (same-precision s s
       scale = s.scale;
       sign = s.sign;
       kind = WithUnit (unit.Named name) w n;
-    }) name w n tables) (system_set s.system) (kind_set s s.unit) (kind_set (moved s) (moved s).unit) (same-kind s s.unit))
+    }) name w n) (system_set s.system) (kind_set s s.unit) (kind_set (moved s) (moved s).unit) (same-kind s s.unit))

@@ -16,7 +16,7 @@ use Rattle.talmuiga_c.proofs.Texts.{is_no_text}
 
 module _ (settings : FormSettings) (tables : List ℕ) where
   -- what a call returns is what is asked for, in the text of the tables and where they are no text
-  asked-is : (made : Result FormData StartError) → (IsUtf8 tables → form_of settings tables ≡ made)
+  pub asked-is : (made : Result FormData StartError) → (IsUtf8 tables → form_of settings tables ≡ made)
       → (¬ (IsUtf8 tables) → made ≡ Err start.NotUtf8) → form_asked settings tables ≡ made
   unfolding form_asked
   asked-is made text no_text = go (is_utf8 tables) refl

@@ -7,7 +7,7 @@ use Rattle.decimal_lines.specs.declared.single_text.TextError.{TextError}
 use Rattle.decimal_lines.specs.declared.single_text.TextError.TheVariants as refusal
 use Rattle.number_forms.specs.Forms.{FormData, form_events}
 use Rattle.talmuiga_c.specs.declared.kept.Kept.{Kept}
-use Rattle.talmuiga_c.specs.declared.kept.Kept.TheVariants.{ByWords, BySkeleton}
+use Rattle.talmuiga_c.specs.declared.kept.Kept.TheVariants.{ByWords, BySkeleton, WithRanges}
 
 -- an error line, without its line feed; no text has `OutOfMemory` in the place of its events
 abbrev pub error_line : TextError → List ℕ
@@ -29,8 +29,10 @@ form_result form text = answer_of (form_events form text)
 abbrev pub kept_events : Kept → List ℕ → Result (List Event) TextError
 kept_events (ByWords mode) text = events_of mode text
 kept_events (BySkeleton form) text = form_events form text
+kept_events (WithRanges form pattern) text = form_events form text
 
 -- the answer of a formatter to the text of a line
 abbrev pub kept_result : Kept → List ℕ → List ℕ
 kept_result (ByWords mode) = text_result mode
 kept_result (BySkeleton form) = form_result form
+kept_result (WithRanges form pattern) = form_result form

@@ -7,5 +7,7 @@ pub mod Handle
 pub mod Kept
 pub mod Listing
 pub mod Marked
+pub mod Patterns
+pub mod Ranges
 pub mod SkeletonFaults
 pub mod Skeletons

@@ -13,6 +13,7 @@ use crate::handle::Formatter;
 use crate::output::put_text;
 use crate::status::{self, status_of, text_status};
 use decimal_lines::{FillError, Mode, Progress, TextError, Words, format_some, format_text};
+use icu_ranges::RangePattern;
 use number_forms::Form;
 use std::alloc::Global;
 
@@ -27,6 +28,8 @@ pub enum Kept {
     ByWords(Mode),
     /// A form, as a number skeleton asks for it.
     BySkeleton(Form),
+    /// A form, as a number skeleton asks for it, and the pattern that its ranges are written by.
+    WithRanges(Form, RangePattern),
 }
 
 /// How far an input is answered.
@@ -62,6 +65,7 @@ fn format_some_in(alloc: Global, kept: &Kept, input: &[u8], output: &mut [u8]) -
     match kept {
         Kept::ByWords(mode) => format_some(alloc, mode, input, output),
         Kept::BySkeleton(form) => format_some_by(alloc, form, input, output),
+        Kept::WithRanges(form, _) => format_some_by(alloc, form, input, output),
     }
 }
 
@@ -123,6 +127,7 @@ fn format_text_in(
     match kept {
         Kept::ByWords(mode) => format_text(alloc, mode, text, output),
         Kept::BySkeleton(form) => format_text_by(alloc, form, text, output),
+        Kept::WithRanges(form, _) => format_text_by(alloc, form, text, output),
     }
 }
 

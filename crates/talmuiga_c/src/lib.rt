@@ -13,6 +13,9 @@ mod kept;
 mod listing;
 mod marked;
 mod output;
+mod patterns;
+mod range_status;
+mod ranges;
 mod skeletons;
 mod status;
 
@@ -26,6 +29,7 @@ ghost use Rattle.talmuiga_c.specs.Handle.{empty, holding};
 ghost use Rattle.talmuiga_c.specs.Kept.{IsWrittenSoFar, IsShown, Opens, OpensIn, version};
 ghost use Rattle.talmuiga_c.specs.Listing.{IsListed, listed_kind};
 ghost use Rattle.talmuiga_c.specs.Marked.{IsShownInParts};
+ghost use Rattle.talmuiga_c.specs.Ranges.{IsRange, OpensRanges};
 ghost use Rattle.std.specs.Prelude.{◌≡◌, Ok};
 ghost use Rattle.std.specs.Mem.{type_size};
 ghost use Rattle.talmuiga_c.specs.contracts.kept.Kept.{the_row};
@@ -42,6 +46,7 @@ use judging::judge_in_words;
 use kept::{Kept, Reached, format_lines_in, format_one_in, open_asked};
 use listing::list_tables;
 use marked::{Span, format_parts_in};
+use ranges::{format_range_in, open_ranges};
 use skeletons::{open_skeleton, put_canonical};
 use std::alloc::Global;
 use std::mem;
@@ -266,6 +271,67 @@ pub extern "C" fn talmuiga_formatter_parts_sized(
 {
     let lent = formatter.lend();
     let status = format_parts_in(alloc, lent.kept(), text, output, length, spans, count);
+    formatter.back(lent);
+    status
+}
+
+/// Opens a formatter that writes ranges too, by tables, a locale and a number skeleton. What is
+/// wrong with the skeleton is set, or zeros.
+// promise: Locale, skeleton and tables determine form and pattern.
+// mutations: ranges_no_pattern_told_as_no_data, ranges_pattern_before_the_form
+#[unsafe(no_mangle)]
+pub extern "C" fn talmuiga_formatter_open_ranges_sized(
+    alloc: Global,
+    tables: &[u8],
+    locale: &[u8],
+    skeleton: &[u8],
+    fault: &mut Fault,
+    formatter: &mut Formatter,
+) -> u32
+    requires empty { formatter.old.held ≡ empty }
+    ensures opens { OpensRanges locale.now skeleton.now tables.now formatter.new.held
+        fault.new result }
+{
+    open_ranges(alloc, tables, locale, skeleton, fault, formatter)
+}
+
+/// Opens a formatter in English that writes ranges too, by a number skeleton, without tables: by
+/// those of English that the library has. What is wrong with the skeleton is set, or zeros.
+// promise: A skeleton determines the English form and pattern.
+// mutations: english_ranges_in_another_locale
+#[unsafe(no_mangle)]
+pub extern "C" fn talmuiga_formatter_open_english_ranges_sized(
+    alloc: Global,
+    skeleton: &[u8],
+    fault: &mut Fault,
+    formatter: &mut Formatter,
+) -> u32
+    requires empty { formatter.old.held ≡ empty }
+    ensures opens { OpensRanges english_locale skeleton.now english_tables formatter.new.held
+        fault.new result }
+{
+    open_ranges(alloc, ENGLISH.as_bytes(), b"en", skeleton, fault, formatter)
+}
+
+/// Writes the range of two numbers, if its text fits, and sets the length of the text.
+// promise: Two numbers have the text of their range, or a status.
+// mutations: ranges_end_written_as_the_start, ranges_no_text_with_a_length
+#[unsafe(no_mangle)]
+pub extern "C" fn talmuiga_formatter_range_sized(
+    alloc: Global,
+    formatter: &mut Formatter,
+    start: &[u8],
+    end: &[u8],
+    output: &mut [u8],
+    length: &mut usize,
+) -> u32
+    ghost kept: { Kept }
+    requires open { formatter.old.held ≡ holding kept }
+    ensures written { IsRange kept start.now end.now output.old output.new length.new result }
+    ensures handed_back { formatter.new.held ≡ holding kept }
+{
+    let lent = formatter.lend();
+    let status = format_range_in(alloc, lent.kept(), start, end, output, length);
     formatter.back(lent);
     status
 }

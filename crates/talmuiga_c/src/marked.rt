@@ -115,6 +115,7 @@ fn mark_text(alloc: Global, kept: &Kept, text: &[u8]) -> Result<PartsText, TextE
     match kept {
         Kept::ByWords(mode) => format_parts(alloc, mode, text),
         Kept::BySkeleton(form) => form.mark(alloc, text),
+        Kept::WithRanges(form, _) => form.mark(alloc, text),
     }
 }
 

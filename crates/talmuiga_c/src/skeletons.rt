@@ -63,7 +63,7 @@ fn skeleton_refused(fault: Fault) -> Rejected
 }
 
 /// What a locale and a skeleton ask for, or why nothing is asked for: the locale is judged first.
-fn settings_asked<'a>(locale: &[u8], skeleton: &'a [u8]) -> Result<Settings<'a>, Rejected>
+pub fn settings_asked<'a>(locale: &[u8], skeleton: &'a [u8]) -> Result<Settings<'a>, Rejected>
     ensures { AsksFor locale.now skeleton.now result }
 {
     let Some(locale) = locale_asked(locale) else {

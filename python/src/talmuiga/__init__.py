@@ -7,6 +7,8 @@
     'compact-short currency/EUR'
     >>> talmuiga.skeleton_of(style="unit", unit="kilometer", unit_display="long")
     'unit/kilometer .### rounding-mode-half-up unit-width-full-name'
+    >>> talmuiga.Formatter.english(skeleton="currency/USD", ranges=True).format_range(3, 5)
+    '$3.00 – $5.00'
 
 A `Formatter` reads its tables once, when it is made, and threads may share it. `talmuiga.babel` has functions with Babel's names, and
 `python -m talmuiga` is a command.
@@ -21,8 +23,8 @@ from typing import Any, Iterable, List, Literal, Optional, Sequence, SupportsFlo
 from . import _library
 from .options import skeleton_of
 
-__all__ = ["Formatter", "NoData", "NotFormatted", "Number", "Refused", "SkeletonRefused", "TablesRefused", "WordsRefused",
-           "canonical_skeleton", "names_in", "skeleton_of", "tables_fault"]
+__all__ = ["Descending", "Formatter", "NoData", "NoPattern", "NoRanges", "NotFormatted", "Number", "Refused", "SkeletonRefused",
+           "TablesRefused", "WordsRefused", "canonical_skeleton", "names_in", "skeleton_of", "tables_fault"]
 __version__ = "0.2.0"
 
 #: What is formatted: a whole number, a decimal, a text that spells one, or a float by its shortest text. Numbers of other types, as
@@ -34,6 +36,12 @@ OUT_OF_MEMORY, WORDS_REFUSED, TABLES_REFUSED, NO_DATA = 1, 2, 3, 4
 
 #: Why a number isn't formatted, by its status.
 REASONS = {6: "not a decimal", 7: "too many digits", 8: "overflow"}
+
+#: Statuses of ranges in the library for C.
+NO_PATTERN, NO_RANGES, DESCENDING = 20, 21, 22
+
+#: Why the end of a range isn't formatted, by its status.
+END_REASONS = {23: "not a decimal", 24: "too many digits", 25: "overflow"}
 
 #: The names of parts, by their numbers in the library for C.
 PARTS = {1: "minusSign", 2: "plusSign", 3: "integer", 4: "fraction", 5: "group", 6: "decimal", 7: "currency",
@@ -86,6 +94,18 @@ class TablesRefused(Refused):
 
 class NoData(Refused):
     """The tables don't say what a formatter of the locale needs."""
+
+
+class NoPattern(Refused):
+    """The tables have no range pattern for the locale, or the formatter was made without ranges."""
+
+
+class NoRanges(ValueError):
+    """The formatter writes numbers with a unit or with the name of a currency, which have no ranges."""
+
+
+class Descending(ValueError):
+    """The start of a range is above its end."""
 
 
 class NotFormatted(ValueError):
@@ -156,9 +176,11 @@ def refusal(status: int, words: List[str], tables: bytes = b"") -> Exception:
     if status == WORDS_REFUSED:
         return WordsRefused(f"no such locale, system, style or grouping: {' '.join(filter(None, words))}")
     if status == TABLES_REFUSED:
-        return TablesRefused(f"the tables are refused: {_library.fault(tables)}")
+        return TablesRefused(f"the tables are refused: {_library.fault(tables) or 'a fault outside of their numbers'}")
     if status == NO_DATA:
         return NoData(f"the tables don't say what a formatter of {words[0]} needs")
+    if status == NO_PATTERN:
+        return NoPattern(f"the tables have no range pattern for {words[0]}")
     return MemoryError("the library had no memory for a formatter")
 
 
@@ -167,6 +189,19 @@ def not_formatted(index: int, text: str, status: int) -> Exception:
     if status == OUT_OF_MEMORY:
         return MemoryError("the library had no memory for a number")
     return NotFormatted(index, text, REASONS[status])
+
+
+def range_refusal(status: int, start: str, end: str) -> Exception:
+    """The exception of a range that isn't formatted."""
+    if status == NO_PATTERN:
+        return NoPattern("the formatter was made without ranges")
+    if status == NO_RANGES:
+        return NoRanges("numbers with a unit or a name have no ranges")
+    if status == DESCENDING:
+        return Descending(f"the start is above the end: {start!r}, {end!r}")
+    if status in END_REASONS:
+        return NotFormatted(1, end, END_REASONS[status])
+    return not_formatted(0, start, status)
 
 
 def rounding_skeleton(style: Optional[str], system: Optional[str], grouping: Optional[str], fraction: int) -> str:
@@ -203,10 +238,11 @@ class Formatter:
     `system` is the numbering system that is preferred, `style` is plain, short or long, plain by default, and `grouping`
     auto, never, always or min2; without it the style decides. `fraction` rounds half to even to so many digits behind the point,
     in a compact number behind that of its significand. In the place of these four `skeleton` is a number skeleton, as
-    `currency/EUR` or `%x100 .0`; `skeleton_of` makes one of options. The library rounds, and Python computes nothing.
+    `currency/EUR` or `%x100 .0`; `skeleton_of` makes one of options. The library rounds, and Python computes nothing. With `ranges` a
+    formatter by a skeleton or a fraction has `format_range` too, by the locale's range pattern in the tables.
 
-    What can't be is refused here, by `WordsRefused`, `SkeletonRefused` (with byte and kind), `TablesRefused` or `NoData`, and if
-    memory runs out, by `MemoryError`.
+    What can't be is refused here, by `WordsRefused`, `SkeletonRefused` (with byte and kind), `TablesRefused`, `NoData` or `NoPattern`,
+    and if memory runs out, by `MemoryError`.
     """
 
     def __init__(
@@ -219,17 +255,22 @@ class Formatter:
         style: Optional[str] = None,
         grouping: Optional[str] = None,
         fraction: Optional[int] = None,
+        ranges: bool = False,
     ):
         if skeleton is not None and any(word is not None for word in (system, style, grouping, fraction)):
             raise TypeError("a formatter by a skeleton has no system, style, grouping or fraction")
         if fraction is not None:
             skeleton = rounding_skeleton(style, system, grouping, fraction)
+        if ranges and skeleton is None:
+            raise TypeError("a formatter of ranges has a skeleton or a fraction")
         words = [locale] if skeleton is not None else [locale, system or "-", style or "plain", grouping or ""]
         tables = bytes(tables)
         opened: Union[_library.Capsule, int, Tuple[int, int, str]]
         try:
             if skeleton is None:
                 opened = _library.open(tables, *words)
+            elif ranges:
+                opened = _library.open_ranges(tables, locale, utf8(skeleton))
             else:
                 opened = _library.open_skeleton(tables, locale, utf8(skeleton))
         except ValueError:  # a NUL, or half of a pair
@@ -241,19 +282,24 @@ class Formatter:
         self._opened = opened
 
     @classmethod
-    def english(cls, *, skeleton: Optional[str] = None, fraction: Optional[int] = None) -> "Formatter":
+    def english(cls, *, skeleton: Optional[str] = None, fraction: Optional[int] = None, ranges: bool = False) -> "Formatter":
         """A formatter in plain English, as 1,234.5, or by a skeleton in English, without tables.
 
         English knows numbers in full and in compact form, percents, and dollars, euros, pounds and yen; what else a skeleton asks for
-        is `NoData`. `fraction` rounds half to even to so many digits behind the point.
+        is `NoData`. `fraction` rounds half to even to so many digits behind the point. With `ranges` a formatter by a skeleton or a
+        fraction has `format_range` too.
         """
         if skeleton is not None and fraction is not None:
             raise TypeError("a formatter by a skeleton has no fraction")
         if fraction is not None:
             skeleton = rounding_skeleton(None, None, None, fraction)
+        if ranges and skeleton is None:
+            raise TypeError("a formatter of ranges has a skeleton or a fraction")
         opened: Union[_library.Capsule, int, Tuple[int, int, str]]
         if skeleton is None:
             opened = _library.open_english()
+        elif ranges:
+            opened = _library.open_english_ranges(utf8(skeleton))
         else:
             opened = _library.open_english_skeleton(utf8(skeleton))
         if isinstance(opened, tuple):
@@ -288,6 +334,18 @@ class Formatter:
             raise not_formatted(0, given, shown)
         text, spans = shown
         return text, [(begin, end, PARTS.get(part, "other")) for begin, end, part in spans]
+
+    def format_range(self, start: Number, end: Number) -> str:
+        """The text of the range of two numbers, as '3–5', by a formatter with ranges; of equal texts the text alone.
+
+        `NotFormatted` where a number has no text, with index 0 for the start and 1 for the end; `Descending` where the start is above
+        the end; `NoRanges` for numbers with a unit or a name; `NoPattern` where the formatter was made without ranges.
+        """
+        first, last = text_of(start), text_of(end)
+        shown = _library.range(self._opened, first, last)
+        if isinstance(shown, int):
+            raise range_refusal(shown, first, last)
+        return shown
 
     def format_many(self, numbers: Iterable[Number], *, mark: Optional[str] = None) -> List[str]:
         """The texts of numbers, in their order, by one call of the library, without the interpreter's lock.

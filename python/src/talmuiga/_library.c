@@ -70,6 +70,29 @@ static PyObject *open_english_by_skeleton(PyObject *Py_UNUSED(module), PyObject 
     return status == TALMUIGA_SKELETON_REFUSED ? triple_of(&found) : opened(status, formatter);
 }
 
+static PyObject *open_ranges(PyObject *Py_UNUSED(module), PyObject *words) {
+    const char *tables, *locale, *skeleton;
+    Py_ssize_t len, skeleton_len;
+    talmuiga_fault found;
+    talmuiga_formatter *formatter;
+    uint32_t status;
+    if (!PyArg_ParseTuple(words, "y#sy#", &tables, &len, &locale, &skeleton, &skeleton_len)) return NULL;
+    Py_BEGIN_ALLOW_THREADS
+    status = talmuiga_formatter_open_ranges(tables, (size_t)len, locale, skeleton, (size_t)skeleton_len, &found, &formatter);
+    Py_END_ALLOW_THREADS
+    return status == TALMUIGA_SKELETON_REFUSED ? triple_of(&found) : opened(status, formatter);
+}
+
+static PyObject *open_english_ranges(PyObject *Py_UNUSED(module), PyObject *words) {
+    const char *skeleton;
+    Py_ssize_t skeleton_len;
+    talmuiga_fault found;
+    talmuiga_formatter *formatter;
+    if (!PyArg_ParseTuple(words, "y#", &skeleton, &skeleton_len)) return NULL;
+    uint32_t status = talmuiga_formatter_open_english_ranges(skeleton, (size_t)skeleton_len, &found, &formatter);
+    return status == TALMUIGA_SKELETON_REFUSED ? triple_of(&found) : opened(status, formatter);
+}
+
 /* ---- The texts of numbers. */
 
 enum { SHORT = 32 };
@@ -270,6 +293,37 @@ static PyObject *parts(PyObject *Py_UNUSED(module), PyObject *words) {
     if (!PyArg_ParseTuple(words, "OU", &capsule, &number)) return NULL;
     const talmuiga_formatter *formatter = (const talmuiga_formatter *)PyCapsule_GetPointer(capsule, NAME);
     return formatter ? shown_in_parts(formatter, number) : NULL;
+}
+
+/* The UTF-8 of a str; with half of a pair no byte, which is no decimal either. */
+static const char *end_of(PyObject *number, Py_ssize_t *len) {
+    const char *text = PyUnicode_AsUTF8AndSize(number, len);
+    if (text || !PyErr_ExceptionMatches(PyExc_UnicodeEncodeError)) return text;
+    PyErr_Clear();
+    *len = 0;
+    return "";
+}
+
+/* The text of the range of two str, or the status where it has none. */
+static PyObject *range(PyObject *Py_UNUSED(module), PyObject *words) {
+    char room[ROOM], *output = room;
+    PyObject *capsule, *first, *last;
+    Py_ssize_t start_len, end_len;
+    size_t length;
+    if (!PyArg_ParseTuple(words, "OUU", &capsule, &first, &last)) return NULL;
+    const talmuiga_formatter *formatter = (const talmuiga_formatter *)PyCapsule_GetPointer(capsule, NAME);
+    const char *start = formatter ? end_of(first, &start_len) : NULL, *end = start ? end_of(last, &end_len) : NULL;
+    if (!end) return NULL;
+    uint32_t status = talmuiga_formatter_range(formatter, start, (size_t)start_len, end, (size_t)end_len, output, ROOM, &length);
+    if (status == TALMUIGA_OUTPUT_TOO_SMALL) {
+        output = (char *)PyMem_Malloc(length);
+        if (!output) return PyErr_NoMemory();
+        status = talmuiga_formatter_range(formatter, start, (size_t)start_len, end, (size_t)end_len, output, length, &length);
+    }
+    PyObject *answer =
+        status ? PyLong_FromUnsignedLong(status) : PyUnicode_DecodeUTF8(output, (Py_ssize_t)length, NULL);
+    if (output != room) PyMem_Free(output);
+    return answer;
 }
 
 /* ---- Many numbers: read with the interpreter's lock, formatted without it, made into texts with it again, a thousand at
@@ -543,6 +597,11 @@ static PyMethodDef methods[] = {
     {"open_english", open_english, METH_NOARGS, "A formatter in plain English, or a status."},
     {"open_english_skeleton", open_english_by_skeleton, METH_VARARGS,
      "A formatter in English by a skeleton, or a status or a fault."},
+    {"open_ranges", open_ranges, METH_VARARGS,
+     "A formatter that writes ranges, by tables, a locale and a skeleton, or a status or a fault."},
+    {"open_english_ranges", open_english_ranges, METH_VARARGS,
+     "A formatter in English that writes ranges, by a skeleton, or a status or a fault."},
+    {"range", range, METH_VARARGS, "What the range of two texts is formatted to, or a status."},
     {"fault", fault, METH_VARARGS, "Why tables are refused; an empty text where they aren't."},
     {"list", list, METH_VARARGS, "What tables hold of a kind, a name in each line, or a status."},
     {"one", (PyCFunction)(void (*)(void))one, METH_FASTCALL, "What a number is formatted to, or a status."},
