@@ -96,11 +96,7 @@ fn data_in(
 }
 
 /// What a file of tables says of ranges.
-fn data_of(
-    alloc: Global,
-    file: &[u8],
-    settings: &Settings<'_>,
-) -> Result<RangeData, StartError> {
+fn data_of(alloc: Global, file: &[u8], settings: &Settings<'_>) -> Result<RangeData, StartError> {
     let Ok(text) = str::from_utf8(file) else {
         return Err(StartError::NotUtf8);
     };
