@@ -45,12 +45,12 @@ enum {
 
 /* How a call with ranges ends besides. */
 enum {
-    TALMUIGA_NO_PATTERN = 20,          /* the tables have no range pattern for the locale, or the formatter was opened without */
-    TALMUIGA_NO_RANGES = 21,           /* numbers with a unit or with the name of a currency have no ranges */
-    TALMUIGA_DESCENDING = 22,          /* the start is above the end */
-    TALMUIGA_END_NOT_DECIMAL = 23,     /* the text of the end isn't a decimal */
-    TALMUIGA_END_TOO_MANY_DIGITS = 24, /* it has a digit at a power of ten past the limits */
-    TALMUIGA_END_OVERFLOW = 25         /* the number to show for it has a digit at a power of ten past the limits */
+    TALMUIGA_NO_PATTERN = 10,          /* the tables have no range pattern for the locale, or the formatter was opened without */
+    TALMUIGA_NO_RANGES = 11,           /* numbers with a unit or with the name of a currency have no ranges */
+    TALMUIGA_DESCENDING = 12,          /* the start is above the end */
+    TALMUIGA_END_NOT_DECIMAL = 13,     /* the text of the end isn't a decimal */
+    TALMUIGA_END_TOO_MANY_DIGITS = 14, /* it has a digit at a power of ten past the limits */
+    TALMUIGA_END_OVERFLOW = 15         /* the number to show for it has a digit at a power of ten past the limits */
 };
 
 /* Formats the lines of the input in plain English, as 1,234.5.

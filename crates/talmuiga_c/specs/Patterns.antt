@@ -33,7 +33,7 @@ pattern_asked settings tables = pattern_in_text settings (text_in tables)
 
 -- there is no range pattern: tables have none for the locale, or a formatter was opened without one
 abbrev pub no_pattern : ℕ
-no_pattern = 20
+no_pattern = 10
 
 -- the status of a pattern that isn't there
 abbrev pub pattern_status : StartError → ℕ

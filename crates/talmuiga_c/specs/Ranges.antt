@@ -44,21 +44,21 @@ OpensRanges locale skeleton tables held fault status = OpensRangesAsked (setting
 
 -- the formatter writes numbers with a unit or with the name of a currency, which have no ranges
 abbrev pub no_ranges : ℕ
-no_ranges = 21
+no_ranges = 11
 
 -- the start is above the end
 abbrev pub descending : ℕ
-descending = 22
+descending = 12
 
 -- the end isn't a decimal, has too many digits, or has no number to show that is within the limits
 abbrev pub end_not_decimal : ℕ
-end_not_decimal = 23
+end_not_decimal = 13
 
 abbrev pub end_too_many_digits : ℕ
-end_too_many_digits = 24
+end_too_many_digits = 14
 
 abbrev pub end_overflow : ℕ
-end_overflow = 25
+end_overflow = 15
 
 -- that of an end that isn't shown; of a start it is the status of one number
 abbrev pub end_status : TextError → ℕ

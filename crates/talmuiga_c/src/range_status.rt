@@ -11,23 +11,23 @@ use number_ranges::RangeTextError;
 
 /// There is no range pattern: the tables have none for the locale, or the formatter was opened
 /// without one.
-pub const NO_PATTERN: u32 = 20;
+pub const NO_PATTERN: u32 = 10;
 
 /// The formatter writes numbers with a unit or with the name of a currency, which have no ranges.
-pub const NO_RANGES: u32 = 21;
+pub const NO_RANGES: u32 = 11;
 
 /// The start is above the end.
-pub const DESCENDING: u32 = 22;
+pub const DESCENDING: u32 = 12;
 
 /// The end isn't a decimal.
-pub const END_NOT_DECIMAL: u32 = 23;
+pub const END_NOT_DECIMAL: u32 = 13;
 
 /// The end has a digit at a power of ten past the limits.
-pub const END_TOO_MANY_DIGITS: u32 = 24;
+pub const END_TOO_MANY_DIGITS: u32 = 14;
 
 /// The number that is shown of the end would be ten to the power 32768 or more, or have a digit at
 /// a power past the limits.
-pub const END_OVERFLOW: u32 = 25;
+pub const END_OVERFLOW: u32 = 15;
 
 /// The status where there is no pattern.
 pub fn pattern_status(error: StartError) -> u32

@@ -38,10 +38,10 @@ OUT_OF_MEMORY, WORDS_REFUSED, TABLES_REFUSED, NO_DATA = 1, 2, 3, 4
 REASONS = {6: "not a decimal", 7: "too many digits", 8: "overflow"}
 
 #: Statuses of ranges in the library for C.
-NO_PATTERN, NO_RANGES, DESCENDING = 20, 21, 22
+NO_PATTERN, NO_RANGES, DESCENDING = 10, 11, 12
 
 #: Why the end of a range isn't formatted, by its status.
-END_REASONS = {23: "not a decimal", 24: "too many digits", 25: "overflow"}
+END_REASONS = {13: "not a decimal", 14: "too many digits", 15: "overflow"}
 
 #: The names of parts, by their numbers in the library for C.
 PARTS = {1: "minusSign", 2: "plusSign", 3: "integer", 4: "fraction", 5: "group", 6: "decimal", 7: "currency",
