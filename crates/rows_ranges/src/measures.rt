@@ -6,7 +6,8 @@ use crate::ends::range;
 use crate::faults::Fault;
 use crate::locales::{fallback_of, name_of, plain, tables};
 use crate::plural::{category_of, ranges, rules};
-use crate::written::asked;
+use crate::written::{RangeWriter, asked};
+use icu_decimal::DecimalFormatter;
 use icu_dimension::{LongCurrencyFormatter, NamePattern, NameTexts, UnitsFormatter};
 use icu_pattern::{Pattern, SinglePlaceholder};
 use icu_plurals::{PluralCategory, PluralElements};
@@ -116,6 +117,43 @@ fn names_of(alloc: Global, patterns: &str) -> Result<PluralElements<NamePattern>
     Ok(elements)
 }
 
+/// The formatter of single numbers with a unit.
+fn single_units(
+    alloc: Global,
+    tables: &Tables,
+    measure: Measure<'_>,
+) -> Result<UnitsFormatter<DecimalFormatter>, Fault> {
+    let numbers = plain(alloc, tables, measure.locale)?;
+    let rules = rules(alloc, tables, name_of(measure.locale))?;
+    Ok(UnitsFormatter::new(numbers, rules, units_of(alloc, measure.patterns)?))
+}
+
+/// The formatter of single amounts with the name of a currency.
+fn single_names(
+    alloc: Global,
+    tables: &Tables,
+    measure: Measure<'_>,
+) -> Result<LongCurrencyFormatter<DecimalFormatter>, Fault> {
+    let numbers = plain(alloc, tables, measure.locale)?;
+    let rules = rules(alloc, tables, name_of(measure.locale))?;
+    Ok(LongCurrencyFormatter::new(numbers, rules, names_of(alloc, measure.patterns)?))
+}
+
+/// What a call answers for the range of a measure.
+fn asked_of<W: RangeWriter>(
+    alloc: Global,
+    formatter: &W,
+    call: &str,
+    measure: Measure<'_>,
+) -> Result<String, Fault> {
+    asked(
+        alloc,
+        formatter,
+        call,
+        &range(alloc, measure.start, measure.end)?,
+    )
+}
+
 /// What ranges with a unit answer.
 fn units(
     alloc: Global,
@@ -125,13 +163,10 @@ fn units(
 ) -> Result<String, Fault> {
     let pattern = RangePattern::parse(alloc, measure.pattern)?;
     let entries = ranges(alloc, measure.entries)?;
-    let range = range(alloc, measure.start, measure.end)?;
-    let numbers = plain(alloc, tables, measure.locale)?;
-    let rules = rules(alloc, tables, name_of(measure.locale))?;
-    let single = UnitsFormatter::new(numbers, rules, units_of(alloc, measure.patterns)?);
+    let single = single_units(alloc, tables, measure)?;
     let fallback = fallback_of(measure.locale);
     let formatter = UnitsRangeFormatter::new(single, pattern, entries, fallback);
-    asked(alloc, &formatter, call, &range)
+    asked_of(alloc, &formatter, call, measure)
 }
 
 /// What ranges with the name of a currency answer.
@@ -143,13 +178,10 @@ fn names(
 ) -> Result<String, Fault> {
     let pattern = RangePattern::parse(alloc, measure.pattern)?;
     let entries = ranges(alloc, measure.entries)?;
-    let range = range(alloc, measure.start, measure.end)?;
-    let numbers = plain(alloc, tables, measure.locale)?;
-    let rules = rules(alloc, tables, name_of(measure.locale))?;
-    let single = LongCurrencyFormatter::new(numbers, rules, names_of(alloc, measure.patterns)?);
+    let single = single_names(alloc, tables, measure)?;
     let fallback = fallback_of(measure.locale);
     let formatter = LongCurrencyRangeFormatter::new(single, pattern, entries, fallback);
-    asked(alloc, &formatter, call, &range)
+    asked_of(alloc, &formatter, call, measure)
 }
 
 /// What a call of ranges with a unit or a name answers.
