@@ -3,7 +3,7 @@
 
 usage: bench/python_prices.py [RUNS], where the package is installed, or PYTHONPATH names its folder
 
-Each is given prices in dollars as texts, as a report has them, and answers a list of texts; the best time of the runs for one price.
+Each is given prices in dollars as texts, as a report has them, and answers a list of texts; the best processor time of the runs for one price.
 Babel gets a hundredth of the million prices.
 """
 import math
@@ -66,9 +66,9 @@ def main() -> None:
             continue
         best, given = math.inf, texts
         for _ in range(runs):
-            start = time.perf_counter()
+            start = time.process_time()
             given = way(texts)
-            best = min(best, (time.perf_counter() - start) / len(given))
+            best = min(best, (time.process_time() - start) / len(given))
         own = own or best
         same = given == wanted[:: len(texts) // len(given)]
         print(f"| {name} | {best * 1e9:.0f} | {best / own:.2f} | {'yes' if same else 'no'} |")
