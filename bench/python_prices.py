@@ -3,8 +3,8 @@
 
 usage: bench/python_prices.py [RUNS], where the package is installed, or PYTHONPATH names its folder
 
-Each is given prices in dollars as texts, as a report has them, and answers a list of texts; the best processor time of the runs for one price.
-Babel gets a hundredth of the million prices.
+Each is given prices in dollars as texts, as a report has them, and answers a list of texts. The table has the processor time of
+one price, the best of the runs. Babel gets a hundredth of the million prices.
 """
 import math
 import os
