@@ -6,7 +6,7 @@ ghost use Rattle.icu_dimension.specs.UnitPatterns.{in_unit, leading_whitespace, 
 ghost use Rattle.icu_unit_ranges.specs.UnitRanges.{range_unit, with_place};
 
 use crate::values::{other_value, value_for};
-use icu_dimension::parts::UNIT;
+use icu_dimension_data::parts::UNIT;
 use icu_pattern::{Pattern, SinglePlaceholder};
 use icu_plurals::{PluralCategory, PluralElements};
 use writeable::{EventWriter, WriteFault, Writeable};
