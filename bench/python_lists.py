@@ -3,23 +3,16 @@
 
 usage: bench/python_lists.py [RUNS], where the package is installed, or PYTHONPATH names its folder
 
-Each is given a million numbers as texts, as a report has them, and answers a list of texts; the best time of the runs.
+Each is given a million numbers as texts, as a report has them, and answers a list of texts. The table has the processor time of
+one number, the best of the runs.
 """
-import math
 import os
 import random
 import sys
-import time
-from collections.abc import Callable
-from typing import TypeAlias
 
 sys.path.insert(0, os.path.join(os.path.dirname(os.path.abspath(__file__)), "../tests"))
 import usage  # noqa: E402
-
-COUNT = 1_000_000
-
-# What makes texts of texts.
-Way: TypeAlias = Callable[[list[str]], list[str]]
+from python_ways import COUNT, Way, print_table  # noqa: E402
 
 
 def with_icu() -> Way | None:
@@ -41,7 +34,6 @@ def main() -> None:
     words = usage.words_of(__doc__, 0, 1)
     # only now, so that --help needs no package
     import talmuiga
-    runs = int(words[0]) if words else 5
     source = random.Random(1)
     texts = [str(source.randrange(-10 ** source.randrange(1, 16), 10 ** source.randrange(1, 16))) for _ in range(COUNT)]
     english = talmuiga.Formatter.english()
@@ -51,20 +43,7 @@ def main() -> None:
         "format(int(text), ',')": by_python,
         "PyICU": with_icu(),
     }
-    wanted = by_python(texts)
-    print("| from Python | ms | of the library's | same output |\n|---|---|---|---|")
-    own: float | None = None
-    for name, way in ways.items():
-        if way is None:
-            print(f"| {name} | – | – | – |")
-            continue
-        best, given = math.inf, texts
-        for _ in range(runs):
-            start = time.perf_counter()
-            given = way(texts)
-            best = min(best, time.perf_counter() - start)
-        own = own or best
-        print(f"| {name} | {best * 1000:.0f} | {best / own:.2f} | {'yes' if given == wanted else 'no'} |")
+    print_table("numbers", ways, texts, by_python(texts), int(words[0]) if words else 5)
 
 
 if __name__ == "__main__":

@@ -453,19 +453,23 @@ static inline uint32_t talmuiga_formatter_open(const char *tables, size_t tables
     return talmuiga_formatter_opened(made, status, formatter);
 }
 
-/* The same by tables, a locale and a number skeleton, whose statuses are those of talmuiga_formatter_open_skeleton_sized. The
- * locale ends in a NUL. The skeleton has a length, and a pointer with length 0 may be null. The fault may be null; where memory
- * for the formatter isn't found, it is zeros. */
-static inline uint32_t talmuiga_formatter_open_skeleton(const char *tables, size_t tables_len, const char *locale,
-                                                        const char *skeleton, size_t skeleton_len,
-                                                        talmuiga_fault *fault, talmuiga_formatter **formatter) {
+/* A call that opens a formatter by tables, a locale and a number skeleton, and one that does so in English. */
+typedef uint32_t talmuiga_opening(const uint8_t *tables, size_t tables_len, const uint8_t *locale, size_t locale_len,
+                                  const uint8_t *skeleton, size_t skeleton_len, talmuiga_fault *fault,
+                                  talmuiga_formatter *formatter);
+typedef uint32_t talmuiga_english_opening(const uint8_t *skeleton, size_t skeleton_len, talmuiga_fault *fault,
+                                          talmuiga_formatter *formatter);
+
+/* A formatter by such a call, in memory of its own; the fault may be null. */
+static inline uint32_t talmuiga_formatter_open_by(talmuiga_opening *open, const char *tables, size_t tables_len,
+                                                  const char *locale, const char *skeleton, size_t skeleton_len,
+                                                  talmuiga_fault *fault, talmuiga_formatter **formatter) {
     talmuiga_formatter *made = talmuiga_formatter_new();
     talmuiga_fault found = {0, 0, 0};
     uint32_t status = TALMUIGA_OUT_OF_MEMORY;
     if (made) {
-        status = talmuiga_formatter_open_skeleton_sized(talmuiga_bytes(tables), tables_len, talmuiga_bytes(locale),
-                                                        locale ? strlen(locale) : 0, talmuiga_bytes(skeleton),
-                                                        skeleton_len, &found, made);
+        status = open(talmuiga_bytes(tables), tables_len, talmuiga_bytes(locale), locale ? strlen(locale) : 0,
+                      talmuiga_bytes(skeleton), skeleton_len, &found, made);
     }
     if (fault) {
         *fault = found;
@@ -473,19 +477,50 @@ static inline uint32_t talmuiga_formatter_open_skeleton(const char *tables, size
     return talmuiga_formatter_opened(made, status, formatter);
 }
 
-/* The same in English without tables, as talmuiga_formatter_open_english_skeleton_sized. */
-static inline uint32_t talmuiga_formatter_open_english_skeleton(const char *skeleton, size_t skeleton_len,
-                                                                talmuiga_fault *fault, talmuiga_formatter **formatter) {
+/* The same in English. */
+static inline uint32_t talmuiga_formatter_open_english_by(talmuiga_english_opening *open, const char *skeleton,
+                                                          size_t skeleton_len, talmuiga_fault *fault,
+                                                          talmuiga_formatter **formatter) {
     talmuiga_formatter *made = talmuiga_formatter_new();
     talmuiga_fault found = {0, 0, 0};
-    uint32_t status = TALMUIGA_OUT_OF_MEMORY;
-    if (made) {
-        status = talmuiga_formatter_open_english_skeleton_sized(talmuiga_bytes(skeleton), skeleton_len, &found, made);
-    }
+    uint32_t status = made ? open(talmuiga_bytes(skeleton), skeleton_len, &found, made) : (uint32_t)TALMUIGA_OUT_OF_MEMORY;
     if (fault) {
         *fault = found;
     }
     return talmuiga_formatter_opened(made, status, formatter);
+}
+
+/* The same by tables, a locale and a number skeleton, whose statuses are those of talmuiga_formatter_open_skeleton_sized. The
+ * locale ends in a NUL. The skeleton has a length, and a pointer with length 0 may be null. The fault may be null; where memory
+ * for the formatter isn't found, it is zeros. */
+static inline uint32_t talmuiga_formatter_open_skeleton(const char *tables, size_t tables_len, const char *locale,
+                                                        const char *skeleton, size_t skeleton_len,
+                                                        talmuiga_fault *fault, talmuiga_formatter **formatter) {
+    return talmuiga_formatter_open_by(talmuiga_formatter_open_skeleton_sized, tables, tables_len, locale, skeleton, skeleton_len,
+                                      fault, formatter);
+}
+
+/* The same in English without tables, as talmuiga_formatter_open_english_skeleton_sized. */
+static inline uint32_t talmuiga_formatter_open_english_skeleton(const char *skeleton, size_t skeleton_len,
+                                                                talmuiga_fault *fault, talmuiga_formatter **formatter) {
+    return talmuiga_formatter_open_english_by(talmuiga_formatter_open_english_skeleton_sized, skeleton, skeleton_len, fault,
+                                              formatter);
+}
+
+/* Makes a formatter that writes ranges too: talmuiga_formatter_open_ranges_sized as talmuiga_formatter_open_skeleton calls the
+ * other. */
+static inline uint32_t talmuiga_formatter_open_ranges(const char *tables, size_t tables_len, const char *locale,
+                                                      const char *skeleton, size_t skeleton_len,
+                                                      talmuiga_fault *fault, talmuiga_formatter **formatter) {
+    return talmuiga_formatter_open_by(talmuiga_formatter_open_ranges_sized, tables, tables_len, locale, skeleton, skeleton_len,
+                                      fault, formatter);
+}
+
+/* The same in English without tables, as talmuiga_formatter_open_english_ranges_sized. */
+static inline uint32_t talmuiga_formatter_open_english_ranges(const char *skeleton, size_t skeleton_len,
+                                                              talmuiga_fault *fault, talmuiga_formatter **formatter) {
+    return talmuiga_formatter_open_english_by(talmuiga_formatter_open_english_ranges_sized, skeleton, skeleton_len, fault,
+                                              formatter);
 }
 
 /* talmuiga_formatter_format_sized, where a pointer with length 0 may be null, and the output may be longer than
@@ -517,39 +552,6 @@ static inline uint32_t talmuiga_formatter_parts(const talmuiga_formatter *format
     return talmuiga_formatter_parts_sized(&copy, talmuiga_bytes(text), text_len, talmuiga_room(output),
                                           talmuiga_room_len(output_len), length, spans ? spans : &none,
                                           spans_len < most ? spans_len : most, count);
-}
-
-/* Makes a formatter that writes ranges too: talmuiga_formatter_open_ranges_sized as talmuiga_formatter_open_skeleton calls the other. */
-static inline uint32_t talmuiga_formatter_open_ranges(const char *tables, size_t tables_len, const char *locale,
-                                                      const char *skeleton, size_t skeleton_len,
-                                                      talmuiga_fault *fault, talmuiga_formatter **formatter) {
-    talmuiga_formatter *made = talmuiga_formatter_new();
-    talmuiga_fault found = {0, 0, 0};
-    uint32_t status = TALMUIGA_OUT_OF_MEMORY;
-    if (made) {
-        status = talmuiga_formatter_open_ranges_sized(talmuiga_bytes(tables), tables_len, talmuiga_bytes(locale),
-                                                      locale ? strlen(locale) : 0, talmuiga_bytes(skeleton),
-                                                      skeleton_len, &found, made);
-    }
-    if (fault) {
-        *fault = found;
-    }
-    return talmuiga_formatter_opened(made, status, formatter);
-}
-
-/* The same in English without tables, as talmuiga_formatter_open_english_ranges_sized. */
-static inline uint32_t talmuiga_formatter_open_english_ranges(const char *skeleton, size_t skeleton_len,
-                                                              talmuiga_fault *fault, talmuiga_formatter **formatter) {
-    talmuiga_formatter *made = talmuiga_formatter_new();
-    talmuiga_fault found = {0, 0, 0};
-    uint32_t status = TALMUIGA_OUT_OF_MEMORY;
-    if (made) {
-        status = talmuiga_formatter_open_english_ranges_sized(talmuiga_bytes(skeleton), skeleton_len, &found, made);
-    }
-    if (fault) {
-        *fault = found;
-    }
-    return talmuiga_formatter_opened(made, status, formatter);
 }
 
 /* talmuiga_formatter_range_sized, where a pointer with length 0 may be null, and the output may be longer than PTRDIFF_MAX. Any number

@@ -130,9 +130,7 @@ public:
         talmuiga_fault fault;
         std::uint32_t status =
             talmuiga_formatter_open_english_skeleton(asked.text.data(), asked.text.size(), &fault, &made);
-        if (status == TALMUIGA_SKELETON_REFUSED) throw skeleton_refused(fault);
-        judge(status);
-        held_.reset(made);
+        hold(status, fault, made);
     }
 
     /* By tables; the words are as of talmuiga_formatter_open. */
@@ -150,9 +148,7 @@ public:
         talmuiga_fault fault;
         std::uint32_t status = talmuiga_formatter_open_skeleton(tables.data(), tables.size(), locale.c_str(), asked.text.data(),
                                                                 asked.text.size(), &fault, &made);
-        if (status == TALMUIGA_SKELETON_REFUSED) throw skeleton_refused(fault);
-        judge(status);
-        held_.reset(made);
+        hold(status, fault, made);
     }
 
     /* By tables, a locale and a number skeleton, for ranges too: talmuiga::formatter(tables, "de", asked, talmuiga::with_ranges). */
@@ -161,9 +157,7 @@ public:
         talmuiga_fault fault;
         std::uint32_t status = talmuiga_formatter_open_ranges(tables.data(), tables.size(), locale.c_str(), asked.text.data(),
                                                               asked.text.size(), &fault, &made);
-        if (status == TALMUIGA_SKELETON_REFUSED) throw skeleton_refused(fault);
-        judge(status);
-        held_.reset(made);
+        hold(status, fault, made);
     }
 
     /* The same in English, without tables. */
@@ -172,9 +166,7 @@ public:
         talmuiga_fault fault;
         std::uint32_t status =
             talmuiga_formatter_open_english_ranges(asked.text.data(), asked.text.size(), &fault, &made);
-        if (status == TALMUIGA_SKELETON_REFUSED) throw skeleton_refused(fault);
-        judge(status);
-        held_.reset(made);
+        hold(status, fault, made);
     }
 
     /* The text of one number. */
@@ -257,6 +249,13 @@ private:
     static void judge(std::uint32_t status) {
         if (status == TALMUIGA_OUT_OF_MEMORY) throw std::bad_alloc();
         if (status != TALMUIGA_DONE) throw refused(status);
+    }
+
+    /* Holds a formatter that a call opened by a skeleton, or throws why it didn't. */
+    void hold(std::uint32_t status, const talmuiga_fault &fault, talmuiga_formatter *made) {
+        if (status == TALMUIGA_SKELETON_REFUSED) throw skeleton_refused(fault);
+        judge(status);
+        held_.reset(made);
     }
 
     std::unique_ptr<talmuiga_formatter, close> held_;

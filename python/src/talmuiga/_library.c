@@ -41,7 +41,16 @@ static PyObject *triple_of(const talmuiga_fault *found) {
     return Py_BuildValue("(nIs)", (Py_ssize_t)found->byte, (unsigned)found->kind, talmuiga_fault_text(found));
 }
 
-static PyObject *open_by_skeleton(PyObject *Py_UNUSED(module), PyObject *words) {
+/* A capsule of a formatter that was opened by a skeleton, or the status, or the fault. */
+static PyObject *opened_by_skeleton(uint32_t status, const talmuiga_fault *found, talmuiga_formatter *formatter) {
+    return status == TALMUIGA_SKELETON_REFUSED ? triple_of(found) : opened(status, formatter);
+}
+
+/* A call that opens a formatter by tables, a locale and a skeleton, and one that does so in English. */
+typedef uint32_t opening(const char *, size_t, const char *, const char *, size_t, talmuiga_fault *, talmuiga_formatter **);
+typedef uint32_t english_opening(const char *, size_t, talmuiga_fault *, talmuiga_formatter **);
+
+static PyObject *open_by(PyObject *words, opening *open) {
     const char *tables, *locale, *skeleton;
     Py_ssize_t len, skeleton_len;
     talmuiga_fault found;
@@ -49,48 +58,41 @@ static PyObject *open_by_skeleton(PyObject *Py_UNUSED(module), PyObject *words) 
     uint32_t status;
     if (!PyArg_ParseTuple(words, "y#sy#", &tables, &len, &locale, &skeleton, &skeleton_len)) return NULL;
     Py_BEGIN_ALLOW_THREADS
-    status = talmuiga_formatter_open_skeleton(tables, (size_t)len, locale, skeleton, (size_t)skeleton_len, &found, &formatter);
+    status = open(tables, (size_t)len, locale, skeleton, (size_t)skeleton_len, &found, &formatter);
     Py_END_ALLOW_THREADS
-    return status == TALMUIGA_SKELETON_REFUSED ? triple_of(&found) : opened(status, formatter);
+    return opened_by_skeleton(status, &found, formatter);
+}
+
+static PyObject *open_english_by(PyObject *words, english_opening *open) {
+    const char *skeleton;
+    Py_ssize_t skeleton_len;
+    talmuiga_fault found;
+    talmuiga_formatter *formatter;
+    if (!PyArg_ParseTuple(words, "y#", &skeleton, &skeleton_len)) return NULL;
+    uint32_t status = open(skeleton, (size_t)skeleton_len, &found, &formatter);
+    return opened_by_skeleton(status, &found, formatter);
+}
+
+static PyObject *open_by_skeleton(PyObject *Py_UNUSED(module), PyObject *words) {
+    return open_by(words, talmuiga_formatter_open_skeleton);
+}
+
+static PyObject *open_ranges(PyObject *Py_UNUSED(module), PyObject *words) {
+    return open_by(words, talmuiga_formatter_open_ranges);
+}
+
+static PyObject *open_english_by_skeleton(PyObject *Py_UNUSED(module), PyObject *words) {
+    return open_english_by(words, talmuiga_formatter_open_english_skeleton);
+}
+
+static PyObject *open_english_ranges(PyObject *Py_UNUSED(module), PyObject *words) {
+    return open_english_by(words, talmuiga_formatter_open_english_ranges);
 }
 
 static PyObject *open_english(PyObject *Py_UNUSED(module), PyObject *Py_UNUSED(none)) {
     talmuiga_formatter *formatter;
     uint32_t status = talmuiga_formatter_open_english(&formatter);
     return opened(status, formatter);
-}
-
-static PyObject *open_english_by_skeleton(PyObject *Py_UNUSED(module), PyObject *words) {
-    const char *skeleton;
-    Py_ssize_t skeleton_len;
-    talmuiga_fault found;
-    talmuiga_formatter *formatter;
-    if (!PyArg_ParseTuple(words, "y#", &skeleton, &skeleton_len)) return NULL;
-    uint32_t status = talmuiga_formatter_open_english_skeleton(skeleton, (size_t)skeleton_len, &found, &formatter);
-    return status == TALMUIGA_SKELETON_REFUSED ? triple_of(&found) : opened(status, formatter);
-}
-
-static PyObject *open_ranges(PyObject *Py_UNUSED(module), PyObject *words) {
-    const char *tables, *locale, *skeleton;
-    Py_ssize_t len, skeleton_len;
-    talmuiga_fault found;
-    talmuiga_formatter *formatter;
-    uint32_t status;
-    if (!PyArg_ParseTuple(words, "y#sy#", &tables, &len, &locale, &skeleton, &skeleton_len)) return NULL;
-    Py_BEGIN_ALLOW_THREADS
-    status = talmuiga_formatter_open_ranges(tables, (size_t)len, locale, skeleton, (size_t)skeleton_len, &found, &formatter);
-    Py_END_ALLOW_THREADS
-    return status == TALMUIGA_SKELETON_REFUSED ? triple_of(&found) : opened(status, formatter);
-}
-
-static PyObject *open_english_ranges(PyObject *Py_UNUSED(module), PyObject *words) {
-    const char *skeleton;
-    Py_ssize_t skeleton_len;
-    talmuiga_fault found;
-    talmuiga_formatter *formatter;
-    if (!PyArg_ParseTuple(words, "y#", &skeleton, &skeleton_len)) return NULL;
-    uint32_t status = talmuiga_formatter_open_english_ranges(skeleton, (size_t)skeleton_len, &found, &formatter);
-    return status == TALMUIGA_SKELETON_REFUSED ? triple_of(&found) : opened(status, formatter);
 }
 
 /* ---- The texts of numbers. */
