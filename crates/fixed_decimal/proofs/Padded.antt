@@ -9,7 +9,7 @@ use Rattle.std.proofs.lemmas.Nat.{pow-add}
 use Rattle.std.proofs.lemmas.List.{length-replicate, length-drop, drop_at, take_more, take_all, replicate-append-replicate, append_assoc}
 use Rattle.std.proofs.lemmas.List.Elements.{All-append, All-replicate, All-drop, All-get_or}
 use Rattle.fixed_decimal.specs.Unsigned.{Unsigned, IsUnsigned, digit_at, high, low}
-use Rattle.fixed_decimal.specs.Size.{weighed, finest, size, magnitude}
+use Rattle.fixed_decimal.specs.Size.{weighed, finest, magnitude}
 use Rattle.fixed_decimal.specs.Modes.{IsLeastFrom}
 use Rattle.fixed_decimal.specs.Trimming.{IsTrimmed}
 use Rattle.fixed_decimal.specs.Padding.{IsExactWith}

@@ -1,7 +1,7 @@
 //! Rounding to a multiple of a power of ten, by a mode.
 
 ghost use Rattle.std.specs.Prelude.{◌≡◌, ◌≢◌, ◌+◌, ◌*◌, ◌<◌, ◌≤◌, ◌^◌, ◌↔◌, MatchBool, MatchResult, All, length, take, drop, IfOk, IfErr, IfNone, IfSome};
-ghost use Rattle.std.specs.Prelude.{IsErrAnd, pos, negsuc, ◌-ℤ◌, ◌≤ℤ◌};
+ghost use Rattle.std.specs.Prelude.{IsErrAnd, IsErrOf, OnErr, OnOk, pos, negsuc, ◌-ℤ◌, ◌≤ℤ◌};
 ghost use Rattle.std.specs.Ordering.{MatchOrdering};
 ghost use Rattle.fixed_decimal.specs.Unsigned.{IsUnsigned};
 ghost use Rattle.fixed_decimal.specs.Size.{weighed, ten_to};
@@ -61,16 +61,37 @@ impl UnsignedDecimal {
         ensures no_syntax { IfErr result (λ e. e.1 ≢ DecimalError.Syntax) }
         ensures handed_back { IfErr result (λ e. e.0 ≡ self) }
     {
+        match self.round_with_mode(power, mode, minus) {
+            Ok(()) => Ok(self),
+            Err(error) => Err((self, error)),
+        }
+    }
+
+    /// The same in place; an error leaves the value unchanged.
+    pub(crate) fn round_with_mode(
+        &mut self,
+        power: i16,
+        mode: SignedRoundingMode,
+        minus: bool,
+    ) -> Result<(), DecimalError>
+        ensures rounded { OnOk result
+            (IsRoundedBy mode minus (ten_to power) self.old power self.new) }
+        ensures valid { IsUnsigned self.new }
+        ensures limit { IsErrOf result DecimalError.Limit
+            ↔ RoundsPastLimitsBy mode minus (ten_to power) self.old }
+        ensures no_syntax { ¬ (IsErrOf result DecimalError.Syntax) }
+        ensures unchanged { OnErr result (self.new ≡ self.old) }
+    {
         let mode = size_mode(mode, minus);
         let Some(rounded) = round_digits(&self.digits, self.scale, power, mode) else {
-            return Err((self, DecimalError::Limit));
+            return Err(DecimalError::Limit);
         };
         match rounded.leave(&mut self.digits) {
             Ok(()) => {
                 self.scale = scale_below(power);
-                Ok(self)
+                Ok(())
             }
-            Err(_) => Err((self, DecimalError::OutOfMemory)),
+            Err(_) => Err(DecimalError::OutOfMemory),
         }
     }
 }

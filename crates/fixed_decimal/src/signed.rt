@@ -14,6 +14,7 @@ ghost use Rattle.fixed_decimal.specs.SignDisplay.{sign_by_display};
 use crate::signs::{is_negative, sign_by_display};
 use crate::{
     DecimalError, RoundingIncrement, Sign, SignDisplay, SignedRoundingMode, UnsignedDecimal,
+    UnsignedRoundingMode,
 };
 use std::alloc::Global;
 
@@ -81,6 +82,26 @@ impl Decimal {
         ensures unchanged { OnErr result (self.new ≡ self.old) }
     {
         self.absolute.multiply_pow10(power)
+    }
+
+    /// Turns the number into the nearest multiple of ten to the power, the even one of two equally
+    /// near, the sign kept (ICU4X `round`).
+    ///
+    /// Where a carry would need power 32768 the answer is `Limit`, before memory is asked for; an
+    /// error leaves the value unchanged.
+    // promise: In place a number becomes what `rounded` makes of it.
+    // mutations: round_halves_away_from_zero
+    pub fn round(&mut self, power: i16) -> Result<(), DecimalError>
+        ensures rounded { OnOk result (IsRounded self.old.absolute power self.new.absolute) }
+        ensures sign { self.new.sign ≡ self.old.sign }
+        ensures valid { IsUnsigned self.new.absolute }
+        ensures limit { IsErrOf result DecimalError.Limit
+            ↔ RoundsPastLimits self.old.absolute power }
+        ensures no_syntax { ¬ (IsErrOf result DecimalError.Syntax) }
+        ensures unchanged { OnErr result (self.new ≡ self.old) }
+    {
+        let mode = SignedRoundingMode::Unsigned(UnsignedRoundingMode::HalfEven);
+        self.absolute.round_with_mode(power, mode, false)
     }
 
     /// The nearest multiple of ten to the power, the even one of two equally near, the sign kept.
