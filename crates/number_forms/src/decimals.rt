@@ -1,8 +1,8 @@
 //! The decimal that a form writes for a text, and what writes it.
 
 use crate::form::{Form, Formatter};
-use crate::rounded::{form_rounded, signed};
-use crate::scaled::scaled;
+use crate::rounded::{form_round, signed};
+use crate::scaled::scale;
 use decimal_lines::{TextError, read_decimal};
 use fixed_decimal::Decimal;
 use std::alloc::Global;
@@ -37,19 +37,20 @@ impl Form {
         ensures refused { IfErr result (λ error.
             IsRefusal (scaled_decimal self.now text.now) error) }
     {
-        let decimal = read_decimal(alloc, text)?;
-        scaled(alloc, decimal, self.scale)
+        let mut decimal = read_decimal(alloc, text)?;
+        scale(alloc, &mut decimal, self.scale)?;
+        Ok(decimal)
     }
 
     /// The decimal that is written for a number with the sign of its text.
-    pub(crate) fn rounded(&self, alloc: Global, decimal: Decimal) -> Result<Decimal, TextError>
+    pub(crate) fn rounded(&self, alloc: Global, mut decimal: Decimal) -> Result<Decimal, TextError>
         ensures ok { IfOk result (λ d.
             rounded_decimal self.now decimal.sign decimal.absolute ≡ Ok (d.sign, d.absolute)) }
         ensures refused { IfErr result (λ error.
             IsRefusal (rounded_decimal self.now decimal.sign decimal.absolute) error) }
     {
-        let rounded = form_rounded(alloc, &self.formatter, &self.rounding, decimal)?;
-        Ok(signed(rounded, self.sign))
+        form_round(alloc, &self.formatter, &self.rounding, &mut decimal)?;
+        Ok(signed(decimal, self.sign))
     }
 
     /// The decimal that is written for a text (this project's own): that of the text, times the

@@ -1,6 +1,6 @@
 //! The number that is shown for a number, by its rounding.
 
-ghost use Rattle.std.specs.Prelude.{◌≡◌, ◌≤◌, ◌↔◌, ◌==◌, ◌-ℤ◌, IfErr, IfOk, IfSome, OnOk, IsTrue, max, pos};
+ghost use Rattle.std.specs.Prelude.{◌≡◌, ◌≤◌, ◌↔◌, ◌==◌, ◌-ℤ◌, IfErr, IfOk, IfSome, OnOk, Ok, IsTrue, max, pos};
 ghost use Rattle.fixed_decimal.specs.Modes.{IsLeastFrom};
 ghost use Rattle.fixed_decimal.specs.Padding.{IsExactWith};
 ghost use Rattle.fixed_decimal.specs.Size.{magnitude, size};
@@ -13,12 +13,13 @@ ghost use Rattle.number_forms.specs.Rounded.{half_even_to, rounded, shown_number
 ghost use Rattle.number_forms.specs.Cut.{IsCut, IsCutRefusal};
 
 use crate::form::Formatter;
-use crate::scaled::{has_no_zeros_before, trimmed};
+use crate::scaled::{has_no_zeros_before, scale_of, trimmed};
 use crate::shortened::shortened_number;
 use decimal_lines::TextError;
 use fixed_decimal::{
     Decimal, DecimalError, Sign, SignDisplay, SignedRoundingMode, UnsignedRoundingMode,
 };
+use icu_decimal::CompactDecimalFormatter;
 use icu_pattern::SinglePlaceholder;
 use number_rounding::{Rounding, ShownError, shown};
 use skeleton_settings::Precision;
@@ -52,34 +53,38 @@ fn last_power(digits: u16) -> i16
     (-(digits as i32)) as i16
 }
 
-/// The decimal rounded half to even to just that many fraction digits.
-fn cut(decimal: Decimal, digits: u16) -> Result<Decimal, TextError>
+/// Rounds a number half to even to just that many fraction digits. One with that many stays.
+fn cut(decimal: &mut Decimal, digits: u16) -> Result<(), TextError>
     requires { digits ≤ 32768 }
-    ensures ok { IfOk result (λ d. IsCut digits decimal.absolute d.absolute) }
-    ensures sign { IfOk result (λ d. d.sign ≡ decimal.sign) }
-    ensures refused { IfErr result (λ error. IsCutRefusal digits decimal.absolute error) }
+    ensures ok { OnOk result (IsCut digits decimal.old.absolute decimal.new.absolute) }
+    ensures sign { decimal.new.sign ≡ decimal.old.sign }
+    ensures refused { IfErr result (λ error. IsCutRefusal digits decimal.old.absolute error) }
 {
-    match decimal.rounded(last_power(digits)) {
-        Ok(decimal) => Ok(decimal),
-        Err((_, DecimalError::Limit)) => Err(TextError::Overflow),
+    if scale_of(&decimal.absolute) == digits {
+        return Ok(());
+    }
+    match decimal.round(last_power(digits)) {
+        Ok(()) => Ok(()),
+        Err(DecimalError::Limit) => Err(TextError::Overflow),
         Err(_) => Err(TextError::OutOfMemory),
     }
 }
 
-/// The decimal rounded half to even to just that many fraction digits, without zeros before it.
-fn half_even_shown(alloc: Global, decimal: Decimal, digits: u16) -> Result<Decimal, TextError>
+/// Rounds a number half to even to just that many fraction digits, and takes the zeros before it off.
+fn round_half_even(alloc: Global, decimal: &mut Decimal, digits: u16) -> Result<(), TextError>
     requires { digits ≤ 32768 }
-    ensures ok { IfOk result (λ d. shown_number (half_even_to digits) (is_negative decimal.sign)
-        decimal.absolute ≡ Ok d.absolute) }
-    ensures sign { IfOk result (λ d. d.sign ≡ decimal.sign) }
+    ensures ok { OnOk result (shown_number (half_even_to digits) (is_negative decimal.old.sign)
+        decimal.old.absolute ≡ Ok decimal.new.absolute) }
+    ensures sign { decimal.new.sign ≡ decimal.old.sign }
     ensures refused { IfErr result (λ error. IsRefusal (shown_number (half_even_to digits)
-        (is_negative decimal.sign) decimal.absolute) error) }
+        (is_negative decimal.old.sign) decimal.old.absolute) error) }
 {
-    let rounded = cut(decimal, digits)?;
-    if has_no_zeros_before(&rounded.absolute) {
-        return Ok(rounded);
+    cut(decimal, digits)?;
+    if has_no_zeros_before(&decimal.absolute) {
+        return Ok(());
     }
-    trimmed(alloc, &rounded, digits)
+    *decimal = trimmed(alloc, decimal, digits)?;
+    Ok(())
 }
 
 /// The number that is shown for a decimal by any rounding.
@@ -123,56 +128,66 @@ pub(crate) fn signed(decimal: Decimal, display: SignDisplay) -> Decimal
     }
 }
 
-/// The decimal as it is shown, where something says how it is rounded.
-fn rounded(
-    alloc: Global,
-    decimal: Decimal,
-    rounding: &Option<Rounding>,
-) -> Result<Decimal, TextError>
-    ensures ok { IfOk result (λ d.
-        rounded rounding.now decimal.sign decimal.absolute ≡ Ok d.absolute) }
-    ensures sign { IfOk result (λ d. d.sign ≡ decimal.sign) }
+/// Rounds a number, where something says how.
+fn round(alloc: Global, decimal: &mut Decimal, rounding: &Option<Rounding>) -> Result<(), TextError>
+    ensures ok { OnOk result (rounded rounding.now decimal.old.sign decimal.old.absolute
+        ≡ Ok decimal.new.absolute) }
+    ensures sign { decimal.new.sign ≡ decimal.old.sign }
     ensures refused { IfErr result (λ error.
-        IsRefusal (rounded rounding.now decimal.sign decimal.absolute) error) }
+        IsRefusal (rounded rounding.now decimal.old.sign decimal.old.absolute) error) }
 {
     let Some(rounding) = rounding else {
-        return Ok(decimal);
+        return Ok(());
     };
-    match half_even_digits(rounding) {
-        Some(digits) => half_even_shown(alloc, decimal, digits),
-        None => any_shown(alloc, &decimal, rounding),
+    if let Some(digits) = half_even_digits(rounding) {
+        return round_half_even(alloc, decimal, digits);
     }
+    *decimal = any_shown(alloc, decimal, rounding)?;
+    Ok(())
 }
 
-/// The decimal as a form shows it: by the rounding of the form, or by that of compact numbers.
-pub(crate) fn form_rounded(
+/// Turns a number into the one that compact numbers show for it.
+fn shorten(
+    alloc: Global,
+    decimal: &mut Decimal,
+    rounding: &Rounding,
+    formatter: &CompactDecimalFormatter,
+) -> Result<(), TextError>
+    ensures ok { OnOk result (shortened_number rounding.now formatter.now decimal.old.sign
+        decimal.old.absolute ≡ Ok decimal.new.absolute) }
+    ensures sign { decimal.new.sign ≡ decimal.old.sign }
+    ensures refused { IfErr result (λ error. IsRefusal (shortened_number rounding.now
+        formatter.now decimal.old.sign decimal.old.absolute) error) }
+{
+    *decimal = shortened_number(alloc, rounding, formatter, decimal)?;
+    Ok(())
+}
+
+/// Rounds a number as a form shows it: by the rounding of the form, or by that of compact numbers.
+pub(crate) fn form_round(
     alloc: Global,
     formatter: &Formatter,
     rounding: &Option<Rounding>,
-    decimal: Decimal,
-) -> Result<Decimal, TextError>
-    ensures ok { IfOk result (λ d. form_rounded formatter.now rounding.now decimal.sign
-        decimal.absolute ≡ Ok d.absolute) }
-    ensures sign { IfOk result (λ d. d.sign ≡ decimal.sign) }
+    decimal: &mut Decimal,
+) -> Result<(), TextError>
+    ensures ok { OnOk result (form_rounded formatter.now rounding.now decimal.old.sign
+        decimal.old.absolute ≡ Ok decimal.new.absolute) }
+    ensures sign { decimal.new.sign ≡ decimal.old.sign }
     ensures refused { IfErr result (λ error. IsRefusal (form_rounded formatter.now rounding.now
-        decimal.sign decimal.absolute) error) }
+        decimal.old.sign decimal.old.absolute) error) }
 {
     match formatter {
-        Formatter::ShortNumbers(compact, by) => shortened_number(alloc, by, compact, &decimal),
+        Formatter::ShortNumbers(compact, by) => shorten(alloc, decimal, by, compact),
         Formatter::ShortMoney(money, by) => {
-            shortened_number(alloc, by, money.for_sign(decimal.sign), &decimal)
+            shorten(alloc, decimal, by, money.for_sign(decimal.sign))
         }
-        Formatter::ShortNamed(names, by) => {
-            shortened_number(alloc, by, names.formatter(), &decimal)
-        }
-        Formatter::ShortUnits(units, by) => {
-            shortened_number(alloc, by, units.formatter(), &decimal)
-        }
+        Formatter::ShortNamed(names, by) => shorten(alloc, decimal, by, names.formatter()),
+        Formatter::ShortUnits(units, by) => shorten(alloc, decimal, by, units.formatter()),
         Formatter::Numbers(_)
         | Formatter::Money(_)
         | Formatter::MoneyNamed(_)
         | Formatter::MoneyShort(_)
         | Formatter::Percent(_)
-        | Formatter::Units(_) => rounded(alloc, decimal, rounding),
+        | Formatter::Units(_) => round(alloc, decimal, rounding),
     }
 }

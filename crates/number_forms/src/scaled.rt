@@ -1,6 +1,6 @@
 //! Numbers multiplied by a power of ten.
 
-ghost use Rattle.std.specs.Prelude.{◌≡◌, ◌↔◌, IfErr, IfOk, OnOk, IsTrue, max};
+ghost use Rattle.std.specs.Prelude.{◌≡◌, ◌↔◌, IfErr, IfOk, OnOk, IsTrue, Ok, max};
 ghost use Rattle.fixed_decimal.specs.Modes.{IsLeastFrom};
 ghost use Rattle.fixed_decimal.specs.Padding.{IsExactWith};
 ghost use Rattle.fixed_decimal.specs.Size.{magnitude, size};
@@ -44,49 +44,50 @@ pub(crate) fn trimmed(alloc: Global, decimal: &Decimal, least: u16) -> Result<De
 }
 
 /// How many digits stand below power 0.
-fn scale_of(value: &UnsignedDecimal) -> u16
+pub(crate) fn scale_of(value: &UnsignedDecimal) -> u16
     ensures scale { result ≡ value.now.scale }
     ensures valid { IsUnsigned value.now }
 {
     value.fraction().len() as u16
 }
 
-/// The same number with the same fraction digits, without zeros before it.
-fn bare(alloc: Global, decimal: Decimal) -> Result<Decimal, TextError>
-    ensures bare { IfOk result (λ d. IsBare decimal.absolute d.absolute) }
-    ensures sign { IfOk result (λ d. d.sign ≡ decimal.sign) }
+/// Takes the zeros before a number off; its fraction digits stay.
+fn make_bare(alloc: Global, decimal: &mut Decimal) -> Result<(), TextError>
+    ensures bare { OnOk result (IsBare decimal.old.absolute decimal.new.absolute) }
+    ensures sign { decimal.new.sign ≡ decimal.old.sign }
     ensures memory { IfErr result (λ error. error ≡ TextError.OutOfMemory) }
 {
     if has_no_zeros_before(&decimal.absolute) {
-        return Ok(decimal);
+        return Ok(());
     }
-    trimmed(alloc, &decimal, scale_of(&decimal.absolute))
+    *decimal = trimmed(alloc, decimal, scale_of(&decimal.absolute))?;
+    Ok(())
 }
 
 /// Moves each digit that many powers higher.
-fn moved(alloc: Global, decimal: Decimal, power: i16) -> Result<Decimal, TextError>
-    ensures ok { IfOk result (λ d. moved_number power decimal.absolute ≡ Ok d.absolute) }
-    ensures sign { IfOk result (λ d. d.sign ≡ decimal.sign) }
+fn move_digits(alloc: Global, decimal: &mut Decimal, power: i16) -> Result<(), TextError>
+    ensures ok { OnOk result
+        (moved_number power decimal.old.absolute ≡ Ok decimal.new.absolute) }
+    ensures sign { decimal.new.sign ≡ decimal.old.sign }
     ensures refused { IfErr result (λ error.
-        IsRefusal (moved_number power decimal.absolute) error) }
+        IsRefusal (moved_number power decimal.old.absolute) error) }
 {
-    let mut number = bare(alloc, decimal)?;
-    match number.multiply_pow10(power) {
-        Ok(()) => bare(alloc, number),
+    make_bare(alloc, decimal)?;
+    match decimal.multiply_pow10(power) {
+        Ok(()) => make_bare(alloc, decimal),
         Err(DecimalError::Limit) => Err(TextError::Overflow),
         Err(_) => Err(TextError::OutOfMemory),
     }
 }
 
-/// The number times ten to the power; with its digits as they are, where that is one.
-#[inline(always)]
-pub(crate) fn scaled(alloc: Global, decimal: Decimal, power: i16) -> Result<Decimal, TextError>
-    ensures ok { IfOk result (λ d. scaled power decimal.absolute ≡ Ok d.absolute) }
-    ensures sign { IfOk result (λ d. d.sign ≡ decimal.sign) }
-    ensures refused { IfErr result (λ error. IsRefusal (scaled power decimal.absolute) error) }
+/// Multiplies a number by ten to the power; its digits stay as they are, where that is one.
+pub(crate) fn scale(alloc: Global, decimal: &mut Decimal, power: i16) -> Result<(), TextError>
+    ensures ok { OnOk result (scaled power decimal.old.absolute ≡ Ok decimal.new.absolute) }
+    ensures sign { decimal.new.sign ≡ decimal.old.sign }
+    ensures refused { IfErr result (λ error. IsRefusal (scaled power decimal.old.absolute) error) }
 {
     if power == 0 {
-        return Ok(decimal);
+        return Ok(());
     }
-    moved(alloc, decimal, power)
+    move_digits(alloc, decimal, power)
 }

@@ -6,7 +6,7 @@ ghost use Rattle.icu_decimal.specs.CompactFormat.{events_with_exponent, exponent
 ghost use Rattle.decimal_lines.specs.SingleText.{IsRefusal, WroteEvents};
 ghost use Rattle.number_forms.specs.Shortened.{divides_one, shortened, shortened_events, shortened_number};
 
-use crate::scaled::scaled;
+use crate::scaled::scale;
 use decimal_lines::TextError;
 use fixed_decimal::Decimal;
 use icu_decimal::CompactDecimalFormatter;
@@ -69,7 +69,9 @@ pub(crate) fn shortened_number(
         decimal.now.sign decimal.now.absolute) error) }
 {
     let shown = shortened(alloc, rounding, formatter, decimal)?;
-    scaled(alloc, shown.significand, i16::from(shown.exponent))
+    let (mut number, exponent) = (shown.significand, shown.exponent);
+    scale(alloc, &mut number, i16::from(exponent))?;
+    Ok(number)
 }
 
 /// Writes a significand with its exponent.

@@ -9,8 +9,8 @@ ghost use Rattle.number_forms.specs.WrittenOr.{written_or};
 ghost use Rattle.number_forms.specs.declared.form.Formatter.TheVariants.{Money, MoneyNamed, MoneyShort, Numbers, Percent, Units};
 
 use crate::form::{Form, Formatter};
-use crate::rounded::{form_rounded, minus_or_none, signed};
-use crate::scaled::scaled;
+use crate::rounded::{form_round, minus_or_none, signed};
+use crate::scaled::scale;
 use crate::shortened::write_shortened;
 use crate::shortened_with::{write_money_shortened, write_names_shortened, write_units_shortened};
 use decimal_lines::{Mode, TextError, read_decimal, write_shown};
@@ -190,15 +190,15 @@ impl Form {
     fn write_changed<K: EventWriter>(
         &self,
         alloc: Global,
-        decimal: Decimal,
+        mut decimal: Decimal,
         out: &mut K,
     ) -> Result<(), TextError>
         ensures { WroteEvents K.wrote out.old result
             (read_events self.now (decimal.sign, decimal.absolute)) out.new }
     {
-        let number = scaled(alloc, decimal, self.scale)?;
-        let rounded = form_rounded(alloc, &self.formatter, &self.rounding, number)?;
-        let shown = signed(rounded, self.sign);
+        scale(alloc, &mut decimal, self.scale)?;
+        form_round(alloc, &self.formatter, &self.rounding, &mut decimal)?;
+        let shown = signed(decimal, self.sign);
         write_formatted(alloc, &self.formatter, &shown, out)
     }
 

@@ -1,7 +1,7 @@
 //! Calls of `fixed_decimal`. A decimal is spelled as text: its sign, its digits over the whole
 //! written range, and the point.
 
-use crate::powers::{multiplied_pow10, multiply_pow10};
+use crate::powers::{changed_in_place, multiplied_pow10};
 use crate::words::{equal_or_different, said, yes_or_no};
 use fixed_decimal::{Decimal, DecimalError, Sign, SignDisplay, UnsignedDecimal};
 use std::alloc::{AllocError, Global};
@@ -341,7 +341,9 @@ fn result_of_digits(
     arguments: &[String],
 ) -> Result<Option<String>, DecimalError> {
     match arguments {
-        [text, powers @ ..] if call == "multiply_pow10" => multiply_pow10(alloc, text, powers),
+        [text, powers @ ..] if call == "multiply_pow10" || call == "round" => {
+            changed_in_place(alloc, call, text, powers)
+        }
         [text] => match call {
             "Decimal::copy" => copy(alloc, text),
             "trimmed_end" => trimmed_end(alloc, text),

@@ -1,4 +1,4 @@
-//! Calls of `fixed_decimal` that multiply by powers of ten.
+//! Calls of `fixed_decimal` that multiply by powers of ten, and those that change a decimal in place.
 
 use crate::decimals::{decimal_of, made_of_number, name_of, number_of, spelled};
 use fixed_decimal::{Decimal, DecimalError};
@@ -16,9 +16,18 @@ pub(crate) fn multiplied_pow10(
     }
 }
 
-/// Multiplies a decimal in place, and appends what the call answers.
-fn multiply(decimal: &mut Decimal, power: i16, returned: &mut String) -> Result<(), DecimalError> {
-    match decimal.multiply_pow10(power) {
+/// Changes a decimal in place, and appends what the call answers.
+fn change(
+    decimal: &mut Decimal,
+    call: &str,
+    power: i16,
+    returned: &mut String,
+) -> Result<(), DecimalError> {
+    let result = match call {
+        "round" => decimal.round(power),
+        _ => decimal.multiply_pow10(power),
+    };
+    match result {
         Ok(()) => Ok(returned.push_str("done ")?),
         Err(DecimalError::OutOfMemory) => Err(DecimalError::OutOfMemory),
         Err(error) => {
@@ -28,30 +37,32 @@ fn multiply(decimal: &mut Decimal, power: i16, returned: &mut String) -> Result<
     }
 }
 
-/// Multiplies a decimal in place by one power after another. Whether each text is a power.
-fn multiply_by(
+/// Changes a decimal in place by one power after another. Whether each text is a power.
+fn change_by(
     decimal: &mut Decimal,
+    call: &str,
     powers: &[String],
     returned: &mut String,
 ) -> Result<bool, DecimalError> {
     for power in powers {
         match power.as_str().parse() {
-            Ok(power) => multiply(decimal, power, returned)?,
+            Ok(power) => change(decimal, call, power, returned)?,
             Err(_) => return Ok(false),
         }
     }
     Ok(true)
 }
 
-/// What each multiplication in place answers, and the decimal behind the last of them.
-pub(crate) fn multiply_pow10(
+/// What each call in place answers, and the decimal behind the last of them.
+pub(crate) fn changed_in_place(
     alloc: Global,
+    call: &str,
     text: &str,
     powers: &[String],
 ) -> Result<Option<String>, DecimalError> {
     let mut returned = String::new(alloc);
     let mut decimal = decimal_of(alloc, text)?;
-    if !multiply_by(&mut decimal, powers, &mut returned)? {
+    if !change_by(&mut decimal, call, powers, &mut returned)? {
         return Ok(None);
     }
     returned.push_str("| ")?;
