@@ -12,7 +12,8 @@ pub returns-then-has_no_zeros_before-clause-ok : goal.returns-then-has_no_zeros_
 returns-then-has_no_zeros_before-clause-ok c =
     let cut = c.in_ok-cut.ensures.ok in
     let y = c.cut.new.decimal.absolute in
-    cut-shown c.args.digits (is_negative c.args.decimal.now.sign) c.args.decimal.now.absolute y y cut cut.valid refl (c.if-has_no_zeros_before.ensures.none.0 refl)
+    cut-shown c.args.digits (is_negative c.args.decimal.now.sign) c.args.decimal.now.absolute y y cut cut.valid refl
+    (c.if-has_no_zeros_before.ensures.none.0 refl)
     (cut-least c.args.digits (is_negative c.args.decimal.now.sign) c.args.decimal.now.absolute y cut)
 
 pub returns-clause-ok : goal.returns-clause-ok
