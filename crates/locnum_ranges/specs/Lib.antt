@@ -1,0 +1,4 @@
+pub mod Fields
+pub mod Contents
+pub mod Placed
+pub mod Written
