@@ -30,6 +30,6 @@ pub record Appends (m : MessageData) (given : List GivenData) (old new : List �
   pub is_written : IsWritten m given text
   pub new_is : new ≡ old ++ text
 
--- nothing is written, since memory ran out, or by the first fault of the arguments, which leaves the buffer as it was
-abbrev pub IsFault : MessageData → List GivenData → List ℕ → List ℕ → WriteError → Type 0
-IsFault m given old new error = (error ≡ OutOfMemory) ⊎ (HasFault m given error × (new ≡ old))
+-- nothing is written: memory ran out, or the arguments have this first fault
+abbrev pub IsFault : MessageData → List GivenData → WriteError → Type 0
+IsFault m given error = (error ≡ OutOfMemory) ⊎ HasFault m given error

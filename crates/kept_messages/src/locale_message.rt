@@ -34,7 +34,7 @@ impl Model for LocaleMessage {
 }
 
 impl LocaleMessage {
-    ghost use Rattle.std.specs.Prelude.{◌≡◌, ◌++◌, IfErr, OnOk, Ok};
+    ghost use Rattle.std.specs.Prelude.{◌≡◌, ◌⊎◌, IfErr, OnOk, Ok};
     ghost use Rattle.icu_message.specs.Reading.{pieces_of};
     ghost use Rattle.icu_plurals.specs.Rules.{Rule};
     ghost use Rattle.icu_tables.specs.ForLocale.{IsFor};
@@ -150,8 +150,9 @@ impl LocaleMessage {
     ) -> Result<(), WriteError>
         ensures written { OnOk result (Appends self.now arguments.now out.old.items
             out.new.items) }
-        ensures reported { IfErr result (λ error. IsFault self.now arguments.now out.old.items
-            out.new.items error) }
+        ensures reported { IfErr result (λ error. IsFault self.now arguments.now error) }
+        ensures unchanged { IfErr result (λ error.
+            (error ≡ WriteError.OutOfMemory) ⊎ (out.new.items ≡ out.old.items)) }
     {
         let given = lent_arguments(alloc, arguments)?;
         self.message
