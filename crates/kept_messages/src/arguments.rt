@@ -1,7 +1,8 @@
 //! Arguments that own their names and values.
 
+use decimal_lines::TextError;
 use icu_message::ShownNumber;
-use number_forms::{Form, TextError};
+use number_forms::Form;
 use number_messages::shown_by;
 use std::alloc::{AllocError, Global};
 use std::marker::Model;
@@ -64,6 +65,8 @@ impl Arguments {
     }
 
     /// Leaves no arguments.
+    // promise: A cleared list has no arguments.
+    // mutations: clear_leaves_arguments
     pub fn clear(&mut self)
         ensures { self.new ≡ [] }
     {
@@ -81,7 +84,7 @@ impl Arguments {
     }
 
     /// Adds a text. Of two values of one name the first counts.
-    // promise: A text is added with its name, or nothing is.
+    // promise: The list grows by a text with its name, or stays.
     // mutations: push_text_names_itself
     pub fn push_text(&mut self, alloc: Global, name: &str, text: &str) -> Result<(), AllocError>
         ensures added { OnOk result (self.new ≡ with_text self.old name.now text.now) }
@@ -94,7 +97,7 @@ impl Arguments {
     /// Adds the number of a text as a form shows it (`shown_by` of `number_messages`). Of two values
     /// of one name the first counts.
     // promise: A number is added as its form shows it, or nothing is.
-    // mutations: push_number_of_its_name
+    // mutations: push_number_without_its_name
     pub fn push_number(
         &mut self,
         alloc: Global,
@@ -116,8 +119,8 @@ impl Arguments {
 
     /// Adds the number of a text as a form shows it, for the places `{NAME, number, ::SKELETON}`
     /// alone. The form has to be that of the skeleton, which this call doesn't read.
-    // promise: A number of a place is added with its skeleton.
-    // mutations: push_form_without_its_skeleton
+    // promise: A number of a place is kept with its skeleton.
+    // mutations: push_form_with_its_name_as_skeleton
     pub fn push_form(
         &mut self,
         alloc: Global,

@@ -1,7 +1,7 @@
 //! Why there is no message.
 
 use icu_message::ParseError;
-use icu_tables::TableError;
+use icu_table_entries::TableError;
 use thiserror::Error;
 
 /// Why there is no message.

@@ -129,7 +129,7 @@ impl LocaleMessage {
     /// The place with a form of its own at an index, if there are so many: `{NAME, number}` or
     /// `{NAME, number, ::SKELETON}`, from 0 on in the order in which they stand in the text.
     // promise: Places with forms stand in the order of the text.
-    // mutations: place_of_a_number_without_a_form
+    // mutations: place_with_its_name_as_skeleton
     pub fn place(&self, index: usize) -> Option<Place>
         ensures { result ≡ place_from index self.now.message.pieces }
     {
@@ -140,7 +140,7 @@ impl LocaleMessage {
     ///
     /// Each name of the message, in all of its arms, has to be given in its kind; otherwise nothing
     /// is written. If memory runs out, a part of the message may stand in the buffer.
-    // promise: The message is written with its arguments in places.
+    // promise: A kept message is written with kept arguments.
     // mutations: write_rules_exchanged
     pub fn write(
         &self,

@@ -12,7 +12,8 @@ ghost use Rattle.kept_messages.specs.declared.error.OpenError.{OpenError};
 use crate::error::OpenError;
 use icu_message::{Message, ParseError};
 use icu_provider::DataLocale;
-use icu_tables::{TableError, Tables};
+use icu_table_entries::TableError;
+use icu_tables::Tables;
 use std::alloc::Global;
 
 /// Why there is no message if its text isn't one.

@@ -45,7 +45,7 @@ pub extern "C" fn talmuiga_arguments_text_sized(
 
 /// Adds a number to arguments, as a formatter writes it.
 // promise: A number is added as its formatter writes it.
-// mutations: arguments_number_without_a_form_told_as_no_decimal
+// mutations: arguments_no_form_told_as_no_decimal, arguments_number_of_its_name
 #[unsafe(no_mangle)]
 pub extern "C" fn talmuiga_arguments_number_sized(
     alloc: Global,
