@@ -17,6 +17,7 @@ use Rattle.fixed_decimal.specs.declared.modes.UnsignedRoundingMode.TheVariants.{
 use Rattle.fixed_decimal.proofs.MagnitudePlaces.{ten_multiple}
 use Rattle.fixed_decimal.proofs.Magnitudes.{place_is, size_lt}
 use Rattle.fixed_decimal.proofs.Rounds.{finest_large}
+use Rattle.fixed_decimal.proofs.Taken.{allowed_taken}
 use Rattle.fixed_decimal.proofs.TakenMultiples.{nearest-half_even, taken-at}
 use Rattle.fixed_decimal.proofs.Weights.{ten_mono, ten_pos, weighed_units}
 use Rattle.icu_decimal_data.specs.CompactTable.{IsCompactTable, TableEntry, entry_for, exponent_of}
@@ -227,6 +228,18 @@ module _ (d : Unsigned) (p : ℤ) (n : ℕ) (is : p ≡ pos 0 -ℤ pos n) (small
   -- a number that can't be rounded
   pub cut-past : RoundsPastLimits d p → ten_to (pos 32768) ≤ nearest_size n (size d)
   cut-past (y, near, large) = subst (λ (z : ℕ). ten_to (pos 32768) ≤ z) (size-told y near) large
+
+-- a number with n fraction digits is what it is rounded to
+pub cut-itself : (n : ℕ) (d : Unsigned) → IsUnsigned d → d.scale ≡ n → IsCut n d d
+cut-itself n d valid scale =
+    let u : ℕ = 10 ^ (finest - n) in
+    record {
+      valid = valid;
+      size_is = taken-at HalfEven u (size d) (size d) (ten_pos (finest - n))
+          (allowed_taken (IsMultiple u) HalfEven u (size d)
+          (exact_multiple d valid (finest - n) (omega (arith, finest_large, valid.low_limit, scale))));
+      scale_is = scale;
+    }
 
 module _ (n : ℕ) (minus : Bool) (d : Unsigned) where
   -- a number that was rounded half to even, or the same with other digits, as its counts say

@@ -1,5 +1,5 @@
 -- Tables for the locale that is wanted make the same form as all tables, and a text that is rejected makes none.
-use Rattle.std.proofs.Common.{◌≡◌, ℕ, List, Option, None, Result, Ok, refl, sym, ap, ◌∙◌}
+use Rattle.std.proofs.Common.{◌≡◌, ℕ, List, Option, Result, Ok, refl, sym, ap, ◌∙◌}
 use Rattle.icu_plurals.specs.Rules.{Rule}
 use Rattle.icu_provider.specs.Answer.{Refusal, Refuses}
 use Rattle.icu_provider.specs.declared.error.DataErrorKind.{DataErrorKind}

@@ -2,7 +2,7 @@
 use Rattle.std.proofs.Common.{◌≡◌, ℕ, Bool, List, None, Ok, Option, Result, refl, sym, ap, ap₂, ◌∙◌}
 use Rattle.icu_decimal_data.specs.Decided.{or_else}
 use Rattle.icu_decimal_data.specs.declared.decimal_symbols.DecimalSymbols.{DecimalSymbols}
-use Rattle.icu_decimal.specs.Loaded.{Provider, and_then, loaded, preferably}
+use Rattle.icu_decimal.specs.Loaded.{and_then, loaded, preferably}
 use Rattle.icu_decimal_options.specs.Preferences.{locale_id}
 use Rattle.icu_decimal.specs.declared.options.DecimalFormatterOptions.{DecimalFormatterOptions}
 use Rattle.icu_decimal.specs.Decimal.{DecimalFormat}

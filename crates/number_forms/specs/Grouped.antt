@@ -1,5 +1,5 @@
 -- Groups that a form asks for and no strategy of numbers has: the symbols have other sizes then.
-use Rattle.std.specs.Prelude.{ℕ, ◌==◌, Option, Some, None, Result, Ok, Err, if◌then◌else◌}
+use Rattle.std.specs.Prelude.{◌==◌, Option, Some, None, Result, Ok, Err, if◌then◌else◌}
 use Rattle.icu_provider.specs.Answer.{Refusal}
 use Rattle.icu_decimal.specs.Loaded.{Provider}
 use Rattle.icu_decimal.specs.declared.options.GroupingStrategy.{GroupingStrategy}

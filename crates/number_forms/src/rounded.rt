@@ -11,6 +11,7 @@ ghost use Rattle.fixed_decimal.specs.SignDisplay.{is_negative, minus_or_none, si
 ghost use Rattle.number_forms.specs.Forms.{form_rounded};
 ghost use Rattle.number_forms.specs.Rounded.{half_even_to, rounded, shown_number};
 ghost use Rattle.number_forms.specs.Cut.{IsCut, IsCutRefusal};
+ghost use Rattle.number_forms.specs.Shortened.{shortened_number};
 
 use crate::form::Formatter;
 use crate::scaled::{has_no_zeros_before, scale_of, trimmed};

@@ -1,23 +1,28 @@
 use Rattle.std.proofs.Common.{◌≡◌, Result, Ok, Err, arith, inr, refl, sym, ap, ◌∙◌, ℤ, pos}
-use Rattle.std.specs.Prelude.{IfOk, ◌<ℤ◌}
+use Rattle.std.specs.Prelude.{OnOk, ◌<ℤ◌}
 use Rattle.std.proofs.lemmas.Int.{ints}
 use mir.Syntax.{w16}
 use mir.Val.{of_z, to_z}
 use Rattle.fixed_decimal.specs.Unsigned.{Unsigned}
-use Rattle.fixed_decimal.specs.declared.signed.Decimal.{Decimal}
 use Rattle.decimal_lines.specs.declared.single_text.TextError.{TextError}
 use Rattle.number_forms.specs.Scaled.{IsBare, moved_number}
 use Rattle.number_forms.proofs.NumbersMoved.{moved-is, moved-past}
-use Rattle.number_forms.proofs.scaled.moved.Goals as goal
+use Rattle.number_forms.proofs.scaled.move_digits.Goals as goal
 
 pub returns-in-Ok-clause-ok : goal.returns-in-Ok-clause-ok
-returns-in-Ok-clause-ok c = go c.bare-in-Ok.result c.bare-in-Ok.ensures.bare
+returns-in-Ok-clause-ok c = go c.make_bare-in-Ok.result c.make_bare-in-Ok.ensures.bare
   where
     d : Unsigned
-    d = c.args.decimal.absolute
+    d = c.args.decimal.now.absolute
+
+    b : Unsigned
+    b = c.make_bare.new.decimal.absolute
 
     m : Unsigned
     m = c.multiply_pow10.new.self.absolute
+
+    u : Unsigned
+    u = c.make_bare-in-Ok.new.decimal.absolute
 
     k : ℤ
     k = to_z w16 (of_z w16 c.args.power)
@@ -25,16 +30,16 @@ returns-in-Ok-clause-ok c = go c.bare-in-Ok.result c.bare-in-Ok.ensures.bare
     is-k : k ≡ c.args.power
     is-k = omega (arith, ints, c.ranges.power.sfits)
 
-    go : (r : Result Decimal TextError) → IfOk r (λ u. IsBare m u.absolute) → IfOk r (λ u. moved_number c.args.power d ≡ Ok u.absolute)
-    go (Ok u) is =
+    go : (r : Result (Unit {0}) TextError) → OnOk r (IsBare m u) → OnOk r (moved_number c.args.power d ≡ Ok u)
+    go (Ok t) is =
         ap (λ (p : ℤ). moved_number p d) (sym is-k)
-        ∙ moved-is k d c.in_ok-number.number.absolute c.in_ok-number.ensures.bare m u.absolute c.in-Ok.ensures.moved c.in-Ok.ensures.size is
+        ∙ moved-is k d b c.in_ok-make_bare.ensures.bare m u c.in-Ok.ensures.moved c.in-Ok.ensures.size is
     go (Err error) is = tt
 
 pub returns-in-Err-Limit-clause-refused : goal.returns-in-Err-Limit-clause-refused
 returns-in-Err-Limit-clause-refused c =
-    inr (ap (λ (p : ℤ). moved_number p c.args.decimal.absolute) (sym is-k)
-    ∙ moved-past k c.args.decimal.absolute c.in_ok-number.number.absolute c.in_ok-number.ensures.bare small
+    inr (ap (λ (p : ℤ). moved_number p c.args.decimal.now.absolute) (sym is-k)
+    ∙ moved-past k c.args.decimal.now.absolute c.make_bare.new.decimal.absolute c.in_ok-make_bare.ensures.bare small
     (c.in-Err-Limit.ensures.limit.0 (rw c.in-Err-Limit.field-0-is refl)))
   where
     k : ℤ
