@@ -49,6 +49,10 @@ with_value given name value = given ++ record { name = name; value = value } ∷
 abbrev pub with_text : List GivenData → List ℕ → List ℕ → List GivenData
 with_text given name t = with_value given name (text t)
 
+-- a number that is shown more, for the places of a skeleton
+abbrev pub with_form : List GivenData → List ℕ → List ℕ → Shown → List GivenData
+with_form given name skeleton n = with_value given name (form skeleton n)
+
 -- a number more, as a form shows it
 pub record AddsNumber (by : FormData) (t name : List ℕ) (old new : List GivenData) : Type 0 where
   pub shown : Shown
@@ -59,4 +63,4 @@ pub record AddsNumber (by : FormData) (t name : List ℕ) (old new : List GivenD
 pub record AddsForm (skeleton : List ℕ) (by : FormData) (t name : List ℕ) (old new : List GivenData) : Type 0 where
   pub shown : Shown
   pub is_shown : IsShownBy by t shown
-  pub new_is : new ≡ with_value old name (form skeleton shown)
+  pub new_is : new ≡ with_form old name skeleton shown

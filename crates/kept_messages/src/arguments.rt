@@ -46,7 +46,7 @@ impl Arguments {
     ghost use Rattle.std.specs.Prelude.{◌≡◌, [], map, IfErr, OnErr, OnOk};
     ghost use Rattle.decimal_lines.specs.SingleText.{IsRefusal};
     ghost use Rattle.number_forms.specs.Forms.{form_events};
-    ghost use Rattle.kept_messages.specs.Arguments.{AddsForm, AddsNumber, given_data, with_text, with_value, value_data};
+    ghost use Rattle.kept_messages.specs.Arguments.{AddsForm, AddsNumber, given_data, with_form, with_text, with_value, value_data};
 
     /// No arguments.
     pub fn new(alloc: Global) -> Arguments
@@ -151,7 +151,7 @@ impl Arguments {
         number: ShownNumber,
     ) -> Result<(), AllocError>
         ensures added { OnOk result
-            (self.new ≡ with_value self.old name.now (form skeleton.now number)) }
+            (self.new ≡ with_form self.old name.now skeleton.now number) }
         ensures unchanged { OnErr result (self.new ≡ self.old) }
     {
         let skeleton = String::from_str(alloc, skeleton)?;
