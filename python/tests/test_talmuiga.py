@@ -297,15 +297,16 @@ MESSAGES: list[tuple[bytes, str, str, dict[str, Any], str]] = [
     (SIX, "de", "{n, number, ::currency/EUR} {m, number, ::currency/EUR}, {n, number, ::K}", {"n": 1000, "m": "2"},
      "1.000,00\u00a0€ 2,00\u00a0€, 1000"),
     (NINE, "en", "a" * 3000, {}, "a" * 3000)]
-for tables, locale, text, values, wanted in MESSAGES:
-    judge(f"the message {text[:30]} of {values}", wanted, lambda: Message(tables, locale, text)(values))
+OTHER: Any = object()
+for given_tables, locale, text, values, wanted in MESSAGES:
+    judge(f"the message {text[:30]} of {values}", wanted, lambda: Message(given_tables, locale, text)(values))
 ORDINAL = Message.english("{n, selectordinal, one{#st} two{#nd} few{#rd} other{#th}}")
 judge("ordinals in English", ["1st", "22nd", "3rd", "112th"], lambda: [ORDINAL(n=n) for n in (1, 22, 3, 112)])
 PLACES = Message.english("{n, number, ::.00} ({n, number, ::compact-short}), {n}, {who}")
 judge("places in English", "1,234,567.00 (1.2M), 1,234,567, Ana", lambda: PLACES(n=1234567, who="Ana"))
 judge("names with what is asked of them", {"n": "number", "who": "any"}, lambda: PLACES.names)
 judge("values by a mapping and by names", "1.00 (1), 1, Ben", lambda: PLACES.format({"n": 1, "who": "Ana"}, who="Ben"))
-judge("a value that no name asks for", "Ana", lambda: Message.english("{who}")(who="Ana", n=object()))
+judge("a value that no name asks for", "Ana", lambda: Message.english("{who}")(who="Ana", n=OTHER))
 judge("a missing argument", (ArgumentRefused, "who", "missing"), lambda: PLACES(n=1))
 judge("a missing argument in another arm", (ArgumentRefused, "m", "missing"),
       lambda: Message.english("{n, plural, one{a} other{{m}}}")(n=1))
@@ -315,7 +316,7 @@ judge("a float that is no number", (ArgumentRefused, "n", "not a decimal"), lamb
 judge("too many digits", (ArgumentRefused, "n", "too many digits"), lambda: PLACES(n="9" * 70000, who="Ana"))
 judge("an overflow in a place", (ArgumentRefused, "n", "overflow"), lambda: Message.english("{n, number, ::K}")(n="9" * 32768))
 judge("half of a pair as a value", (ArgumentRefused, "n", "not UTF-8"), lambda: Message.english("{n}")(n="\ud800"))
-judge("neither a number nor a text", TypeError, lambda: Message.english("{n}")(n=object()))
+judge("neither a number nor a text", TypeError, lambda: Message.english("{n}")(n=OTHER))
 judge("a long text of a message", "9" * 3 + ",999" * 999, lambda: Message.english("{n}")(n=10**3000 - 1))
 for text, byte, kind in [("{n, plural, one", 15, "end"), ("{n}}", 3, "unopened"), ("'{a", 0, "openQuote"), ("{01}", 1, "name"),
                          ("{n, date}", 4, "kind"), ("{n, number, integer}", 12, "style"), ("{n, number, ::scientific}", 14, "skeleton"),

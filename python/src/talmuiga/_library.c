@@ -700,8 +700,8 @@ static PyObject *written(const talmuiga_message *message, const talmuiga_argumen
     return answer;
 }
 
-/* The text of a message with the values of a list; or why it isn't written, as above; or the status and the index of a value that isn't
- * added. */
+/* The text of a message with the values of a list; or why it isn't written, as above; or the status, the index of a value that isn't
+ * added, and -1. */
 static PyObject *write_message(PyObject *Py_UNUSED(module), PyObject *words) {
     PyObject *capsule, *values, *answer = NULL;
     if (!PyArg_ParseTuple(words, "OO!", &capsule, &PyList_Type, &values)) return NULL;
@@ -715,7 +715,7 @@ static PyObject *write_message(PyObject *Py_UNUSED(module), PyObject *words) {
     if (status == TALMUIGA_DONE) {
         answer = written(message, arguments);
     } else if (!PyErr_Occurred()) {
-        answer = Py_BuildValue("(In)", (unsigned)status, at);
+        answer = Py_BuildValue("(Inn)", (unsigned)status, at, (Py_ssize_t)-1);
     }
     talmuiga_arguments_close(arguments);
     return answer;

@@ -139,13 +139,12 @@ class Message:
             given.append((name, number, formatter._opened, skeleton))
 
     def _refused(
-        self,
-        answer: Union[Tuple[int, int, int], Tuple[int, int]],
-        given: List[Tuple[str, bytes, Optional[_library.Capsule], Optional[bytes]]],
+        self, answer: Tuple[int, int, int], given: List[Tuple[str, bytes, Optional[_library.Capsule], Optional[bytes]]]
     ) -> Exception:
         """The exception of a message that isn't written."""
-        status = answer[0]
+        status, first, last = answer
         if status == OUT_OF_MEMORY:
             return MemoryError("the library had no memory for a message")
-        name = self._text[answer[1] : answer[2]].decode() if len(answer) == 3 else given[answer[1]][0]
-        return ArgumentRefused(name, WRITE_REASONS.get(status) or REASONS.get(status, "refused"))
+        # a value that isn't added, or a name in the text of the message
+        name = given[first][0] if last < 0 else self._text[first:last].decode()
+        return ArgumentRefused(name, {**REASONS, **WRITE_REASONS}.get(status, "refused"))
