@@ -53,6 +53,17 @@ enum {
     TALMUIGA_END_OVERFLOW = 15         /* the number to show for it has a digit at a power of ten past the limits */
 };
 
+/* How a call with messages ends besides. */
+enum {
+    TALMUIGA_MESSAGE_REFUSED = 16,  /* the text isn't a message */
+    TALMUIGA_MISSING_ARGUMENT = 17, /* an argument isn't given, or not in the form of its place */
+    TALMUIGA_NOT_A_NUMBER = 18,     /* a text is given where the message wants a number */
+    TALMUIGA_NOT_A_TEXT = 19,       /* a number is given where the message picks by a text */
+    TALMUIGA_NOT_UTF8 = 20,         /* a name, a text or a skeleton isn't UTF-8 */
+    TALMUIGA_NO_FORM = 21,          /* the formatter was opened without a skeleton */
+    TALMUIGA_NO_SUCH_PLACE = 22     /* the message has fewer places or names */
+};
+
 /* Formats the lines of the input in plain English, as 1,234.5.
  *
  * With TALMUIGA_DONE the first *written bytes of the output are the output of the whole input. With
@@ -185,7 +196,7 @@ enum {
     TALMUIGA_FAULT_UNSUPPORTED = 12           /* a skeleton, but no formatter of this version has what it asks for */
 };
 
-/* How many bytes of room a formatter needs, at an address that 16 divides. */
+/* How many bytes of room a formatter needs, at an address that 16 divides; a message and arguments, further down, need as many. */
 size_t talmuiga_formatter_room(void);
 
 /* Opens a formatter in the room that formatter->at leads to. With TALMUIGA_DONE it is open; with each other status it
@@ -302,6 +313,140 @@ uint32_t talmuiga_formatter_range_sized(talmuiga_formatter *formatter, const uin
 /* Closes a formatter that is open, whose room is then the caller's again. */
 void talmuiga_formatter_close_sized(talmuiga_formatter *formatter);
 
+/* ---- Plural messages (ICU MessageFormat), as {n, plural, one{# file} other{# files}}: docs/FORMATS.md describes them. */
+
+/* A message, and arguments of messages: each a pointer to room that the caller gives, as a formatter is. */
+typedef struct talmuiga_message {
+    void *at;
+} talmuiga_message;
+
+typedef struct talmuiga_arguments {
+    void *at;
+} talmuiga_arguments;
+
+/* Where a word stands in the text of a message; zeros where there is none. */
+typedef struct talmuiga_word {
+    size_t start; /* its first byte */
+    size_t end;   /* the byte behind its last one */
+} talmuiga_word;
+
+/* A place {NAME, number, ::SKELETON} of a message; in {NAME, number} the skeleton is empty. */
+typedef struct talmuiga_place {
+    talmuiga_word name;
+    talmuiga_word skeleton;
+} talmuiga_place;
+
+/* What a message asks of an argument. */
+enum {
+    TALMUIGA_ANY_ARGUMENT = 0,    /* a text or a number: it stands in {NAME} alone */
+    TALMUIGA_NUMBER_ARGUMENT = 1, /* a number: plural or selectordinal picks by it, or it stands in a place with a form */
+    TALMUIGA_TEXT_ARGUMENT = 2    /* a text: select picks by it */
+};
+
+/* A name of a message, where it stands first, and one of TALMUIGA_ANY_ARGUMENT and so on. */
+typedef struct talmuiga_named {
+    talmuiga_word name;
+    uint32_t kind;
+} talmuiga_named;
+
+/* The kinds of faults of a message's text (talmuiga_fault), and where the byte of each stands: that of the first token that can't stand
+ * there, and the length of the text if it ends too early. */
+enum {
+    TALMUIGA_MESSAGE_FAULT_NONE = 0,
+    TALMUIGA_MESSAGE_FAULT_NOT_UTF8 = 1,    /* the first byte that isn't UTF-8 */
+    TALMUIGA_MESSAGE_FAULT_TOO_LONG = 2,    /* the text has more than 65,535 bytes; 65535 */
+    TALMUIGA_MESSAGE_FAULT_END = 3,         /* the text ends within an argument */
+    TALMUIGA_MESSAGE_FAULT_UNOPENED = 4,    /* a brace that closes nothing */
+    TALMUIGA_MESSAGE_FAULT_OPEN_QUOTE = 5,  /* the apostrophe of a quote that isn't closed */
+    TALMUIGA_MESSAGE_FAULT_TOO_DEEP = 6,    /* the brace of an argument within eight arms */
+    TALMUIGA_MESSAGE_FAULT_NAME = 7,        /* a name is due */
+    TALMUIGA_MESSAGE_FAULT_KIND = 8,        /* plural, selectordinal, select or number is due */
+    TALMUIGA_MESSAGE_FAULT_STYLE = 9,       /* :: and a skeleton are due */
+    TALMUIGA_MESSAGE_FAULT_SKELETON = 10,   /* in the skeleton; thing is the kind of its fault, as TALMUIGA_FAULT_UNKNOWN_STEM */
+    TALMUIGA_MESSAGE_FAULT_TWO_KINDS = 11,  /* the kind, which differs from an earlier one of the name */
+    TALMUIGA_MESSAGE_FAULT_OFFSET = 12,     /* offset:, which isn't supported */
+    TALMUIGA_MESSAGE_FAULT_KEY = 13,        /* a key is due */
+    TALMUIGA_MESSAGE_FAULT_REPEATED = 14,   /* the key, which stands there for the second time */
+    TALMUIGA_MESSAGE_FAULT_NO_OTHER = 15,   /* the brace that closes a choice without other */
+    TALMUIGA_MESSAGE_FAULT_UNEXPECTED = 16  /* a comma or a brace is due */
+};
+
+/* Opens a message by tables, a locale and a text in the room that message->at leads to. The plural rules of the locale are read once,
+ * here: those of cardinals if the message has `plural`, those of ordinals if it has `selectordinal`.
+ *
+ * With TALMUIGA_DONE the message is open; with each other status it isn't. The locale is judged first, with TALMUIGA_WORDS_REFUSED; then
+ * whether the text is UTF-8, with TALMUIGA_MESSAGE_REFUSED, and whether the tables are, with TALMUIGA_TABLES_REFUSED; then the text, with
+ * TALMUIGA_MESSAGE_REFUSED; then the tables, with TALMUIGA_TABLES_REFUSED; and then whether they have the rules, with TALMUIGA_NO_DATA.
+ * TALMUIGA_OUT_OF_MEMORY may come in place of any. *fault says what is wrong with the text, with TALMUIGA_MESSAGE_REFUSED, and is zeros
+ * with each other status.
+ *
+ * The caller owes what it owes of talmuiga_formatter_open_skeleton_sized, with message in the formatter's place. The bytes of the text
+ * aren't needed once the call has ended. */
+uint32_t talmuiga_message_open_sized(const uint8_t *tables, size_t tables_len, const uint8_t *locale, size_t locale_len,
+                                     const uint8_t *text, size_t text_len, talmuiga_fault *fault, talmuiga_message *message);
+
+/* The same in English without tables. TALMUIGA_WORDS_REFUSED, TALMUIGA_TABLES_REFUSED and TALMUIGA_NO_DATA don't come. */
+uint32_t talmuiga_message_open_english_sized(const uint8_t *text, size_t text_len, talmuiga_fault *fault, talmuiga_message *message);
+
+/* Sets the place with a form of its own at an index, from 0 on in the order of the text; a place may stand there several times. The
+ * status is TALMUIGA_DONE, or TALMUIGA_NO_SUCH_PLACE, and *place is zeros, from their count on.
+ *
+ * Of this function and the next two the caller owes that the message is open. None of them changes it, so any number of threads may use
+ * one at once, each by its own copy of the struct, as the functions further down make it. */
+uint32_t talmuiga_message_place_sized(talmuiga_message *message, size_t index, talmuiga_place *place);
+
+/* Sets the name at an index, from 0 on in the order in which they stand first, each once. The status is TALMUIGA_DONE; or
+ * TALMUIGA_NO_SUCH_PLACE from their count on, or TALMUIGA_OUT_OF_MEMORY, and *named is zeros. */
+uint32_t talmuiga_message_name_sized(talmuiga_message *message, size_t index, talmuiga_named *named);
+
+/* Writes a message with arguments. Each name of the message, in all of its arms, has to be given in its kind. Arguments that the message
+ * doesn't name are ignored, and of two with one name the first counts.
+ *
+ * With TALMUIGA_DONE the first *length bytes of the output are the text. With TALMUIGA_OUTPUT_TOO_SMALL the output is as it was, and
+ * *length says how long the text is. With TALMUIGA_MISSING_ARGUMENT, TALMUIGA_NOT_A_NUMBER and TALMUIGA_NOT_A_TEXT, whichever applies to
+ * the first piece of the message that has such a fault, and with TALMUIGA_OUT_OF_MEMORY, the output is as it was and *length is 0. With
+ * the first three of these *name is where the argument's name stands in the text of the message, and with each other status zeros.
+ *
+ * The caller owes what it owes of talmuiga_format_english_sized, that message and arguments are open, and that *name overlaps nothing
+ * else of the call. The call changes neither, so any number of threads may write at once by their own copies of the structs. */
+uint32_t talmuiga_message_write_sized(talmuiga_message *message, talmuiga_arguments *arguments, uint8_t *output, size_t output_len,
+                                      size_t *length, talmuiga_word *name);
+
+/* Closes a message that is open, whose room is then the caller's again. */
+void talmuiga_message_close_sized(talmuiga_message *message);
+
+/* Opens arguments in the room that arguments->at leads to, without values. They are open then, to be closed by
+ * talmuiga_arguments_close_sized. What the caller owes of their room is what it owes of a formatter's. */
+void talmuiga_arguments_open_sized(talmuiga_arguments *arguments);
+
+/* Adds a text to arguments, behind what is there. Name and text are copied.
+ *
+ * Of this function and the next two: with each status but TALMUIGA_DONE the arguments are as they were; TALMUIGA_NOT_UTF8 comes first,
+ * if the name, the text of this function or the skeleton isn't UTF-8, and TALMUIGA_OUT_OF_MEMORY may come in place of all but that and
+ * TALMUIGA_NO_FORM. The caller owes that the arguments are open, that no other call uses them meanwhile, and what it owes of
+ * talmuiga_format_english_sized. */
+uint32_t talmuiga_arguments_text_sized(talmuiga_arguments *arguments, const uint8_t *name, size_t name_len, const uint8_t *text,
+                                       size_t text_len);
+
+/* Adds a number as the formatter writes it: a decimal and nothing else. The formatter is one that was opened by a skeleton, with or
+ * without ranges; the empty skeleton is plain numbers. It is only lent, and isn't changed. By the number's text the message picks: 1 with
+ * two fraction digits is `other` in English. With TALMUIGA_NO_FORM the formatter was opened otherwise; with TALMUIGA_NOT_DECIMAL,
+ * TALMUIGA_TOO_MANY_DIGITS and TALMUIGA_OVERFLOW there is no number, as of talmuiga_formatter_one_sized. */
+uint32_t talmuiga_arguments_number_sized(talmuiga_arguments *arguments, talmuiga_formatter *formatter, const uint8_t *name,
+                                         size_t name_len, const uint8_t *text, size_t text_len);
+
+/* The same for the places {NAME, number, ::SKELETON} alone, whose skeleton is this one, byte for byte. The formatter has to be that of
+ * the skeleton, which nothing checks. */
+uint32_t talmuiga_arguments_form_sized(talmuiga_arguments *arguments, talmuiga_formatter *formatter, const uint8_t *name,
+                                       size_t name_len, const uint8_t *skeleton, size_t skeleton_len, const uint8_t *text,
+                                       size_t text_len);
+
+/* Leaves no values in arguments, which stay open. */
+void talmuiga_arguments_clear_sized(talmuiga_arguments *arguments);
+
+/* Closes arguments that are open, whose room is then the caller's again. */
+void talmuiga_arguments_close_sized(talmuiga_arguments *arguments);
+
 /* Judges tables, as a formatter that is opened by them does, for any words, and tells in words why they are refused.
  *
  * With TALMUIGA_DONE they are accepted. With TALMUIGA_TABLES_REFUSED *length says how long the words are, and the first
@@ -352,6 +497,13 @@ static inline const char *talmuiga_status_text(uint32_t status) {
         case TALMUIGA_END_NOT_DECIMAL: return "the end: not a decimal";
         case TALMUIGA_END_TOO_MANY_DIGITS: return "the end: too many digits";
         case TALMUIGA_END_OVERFLOW: return "the end: overflow";
+        case TALMUIGA_MESSAGE_REFUSED: return "message refused";
+        case TALMUIGA_MISSING_ARGUMENT: return "an argument is missing";
+        case TALMUIGA_NOT_A_NUMBER: return "an argument isn't a number";
+        case TALMUIGA_NOT_A_TEXT: return "an argument isn't a text";
+        case TALMUIGA_NOT_UTF8: return "not UTF-8";
+        case TALMUIGA_NO_FORM: return "the formatter has no skeleton";
+        case TALMUIGA_NO_SUCH_PLACE: return "no such place or name";
         default: return "no such status";
     }
 }
@@ -384,6 +536,21 @@ static inline const char *talmuiga_fault_text(const talmuiga_fault *fault) {
         default: return at < count ? kinds[at] : "no such fault";
     }
     return texts[fault->thing < count ? fault->thing : 0];
+}
+
+/* A fault of a message's text in words, without its byte. Words are for people; another version may have others. */
+static inline const char *talmuiga_message_fault_text(const talmuiga_fault *fault) {
+    static const char *const kinds[] = {
+        "no fault", "not UTF-8", "more than 65,535 bytes", "the text ends within an argument", "the brace closes nothing",
+        "the quote isn't closed", "an argument within eight arms", "a name is due",
+        "plural, selectordinal, select or number is due", ":: and a skeleton are due", "the skeleton",
+        "another kind than before", "offset isn't supported", "a key is due", "the key is repeated", "no `other`",
+        "a comma or a brace is due"};
+    const talmuiga_fault within = {fault->byte, fault->thing, 0};
+    if (fault->kind == TALMUIGA_MESSAGE_FAULT_SKELETON && fault->thing) {
+        return talmuiga_fault_text(&within);
+    }
+    return fault->kind < sizeof kinds / sizeof *kinds ? kinds[fault->kind] : "no such fault";
 }
 
 /* talmuiga_skeleton_canonical_sized, where a pointer with length 0 may be null, the output may be longer than PTRDIFF_MAX, and
@@ -571,6 +738,216 @@ static inline void talmuiga_formatter_close(talmuiga_formatter *formatter) {
         talmuiga_formatter_close_sized(formatter);
         free(formatter);
     }
+}
+
+/* ---- Messages in memory of malloc's. */
+
+/* The fault where a caller wants none. */
+static inline uint32_t talmuiga_fault_told(talmuiga_fault *fault, talmuiga_fault found, uint32_t status) {
+    if (fault) {
+        *fault = found;
+    }
+    return status;
+}
+
+/* A message that isn't open, in room of malloc's behind its struct; null where malloc refused. */
+static inline talmuiga_message *talmuiga_message_new(void) {
+    talmuiga_message *message = (talmuiga_message *)malloc(16 + talmuiga_formatter_room());
+    if (message) {
+        message->at = (uint8_t *)message + 16;
+    }
+    return message;
+}
+
+/* The message by the status of its call: with each other than TALMUIGA_DONE it is freed, and null. */
+static inline uint32_t talmuiga_message_opened(talmuiga_message *made, uint32_t status, talmuiga_message **message) {
+    if (status != TALMUIGA_DONE) {
+        free(made);
+        made = NULL;
+    }
+    *message = made;
+    return status;
+}
+
+/* Makes a message by tables, a locale and a text, and puts it into *message: with TALMUIGA_DONE it is open, to be closed by
+ * talmuiga_message_close, and with each other status null. Statuses and faults are those of talmuiga_message_open_sized. The locale ends
+ * in a NUL, a pointer with length 0 may be null, and the fault may be null. */
+static inline uint32_t talmuiga_message_open(const char *tables, size_t tables_len, const char *locale, const char *text,
+                                             size_t text_len, talmuiga_fault *fault, talmuiga_message **message) {
+    talmuiga_message *made = talmuiga_message_new();
+    talmuiga_fault found = {0, 0, 0};
+    uint32_t status = TALMUIGA_OUT_OF_MEMORY;
+    if (made) {
+        status = talmuiga_message_open_sized(talmuiga_bytes(tables), tables_len, talmuiga_bytes(locale), locale ? strlen(locale) : 0,
+                                             talmuiga_bytes(text), text_len, &found, made);
+    }
+    return talmuiga_message_opened(made, talmuiga_fault_told(fault, found, status), message);
+}
+
+/* The same in English without tables. */
+static inline uint32_t talmuiga_message_open_english(const char *text, size_t text_len, talmuiga_fault *fault,
+                                                     talmuiga_message **message) {
+    talmuiga_message *made = talmuiga_message_new();
+    talmuiga_fault found = {0, 0, 0};
+    uint32_t status = TALMUIGA_OUT_OF_MEMORY;
+    if (made) {
+        status = talmuiga_message_open_english_sized(talmuiga_bytes(text), text_len, &found, made);
+    }
+    return talmuiga_message_opened(made, talmuiga_fault_told(fault, found, status), message);
+}
+
+/* talmuiga_message_place_sized and talmuiga_message_name_sized. Any number of threads may use one message at once. */
+static inline uint32_t talmuiga_message_place(const talmuiga_message *message, size_t index, talmuiga_place *place) {
+    talmuiga_message copy = *message;
+    return talmuiga_message_place_sized(&copy, index, place);
+}
+
+static inline uint32_t talmuiga_message_name(const talmuiga_message *message, size_t index, talmuiga_named *named) {
+    talmuiga_message copy = *message;
+    return talmuiga_message_name_sized(&copy, index, named);
+}
+
+/* talmuiga_message_write_sized, where an output with length 0 and the name may be null, and the output may be longer than PTRDIFF_MAX.
+ * Any number of threads may write one message at once, and with one list of arguments. */
+static inline uint32_t talmuiga_message_write(const talmuiga_message *message, const talmuiga_arguments *arguments, char *output,
+                                              size_t output_len, size_t *length, talmuiga_word *name) {
+    talmuiga_message copy = *message;
+    talmuiga_arguments given = *arguments;
+    talmuiga_word unseen;
+    return talmuiga_message_write_sized(&copy, &given, talmuiga_room(output), talmuiga_room_len(output_len), length,
+                                        name ? name : &unseen);
+}
+
+/* Closes and frees a message that was made by talmuiga_message_open or talmuiga_message_open_english; null is closed already. */
+static inline void talmuiga_message_close(talmuiga_message *message) {
+    if (message) {
+        talmuiga_message_close_sized(message);
+        free(message);
+    }
+}
+
+/* Makes arguments without values, to be closed by talmuiga_arguments_close; null where malloc refused. */
+static inline talmuiga_arguments *talmuiga_arguments_open(void) {
+    talmuiga_arguments *arguments = (talmuiga_arguments *)malloc(16 + talmuiga_formatter_room());
+    if (arguments) {
+        arguments->at = (uint8_t *)arguments + 16;
+        talmuiga_arguments_open_sized(arguments);
+    }
+    return arguments;
+}
+
+/* talmuiga_arguments_text_sized, where the name ends in a NUL, and a pointer with length 0 may be null. */
+static inline uint32_t talmuiga_arguments_text(talmuiga_arguments *arguments, const char *name, const char *text, size_t text_len) {
+    return talmuiga_arguments_text_sized(arguments, talmuiga_bytes(name), name ? strlen(name) : 0, talmuiga_bytes(text), text_len);
+}
+
+/* talmuiga_arguments_number_sized in the same way. */
+static inline uint32_t talmuiga_arguments_number(talmuiga_arguments *arguments, const talmuiga_formatter *formatter, const char *name,
+                                                 const char *text, size_t text_len) {
+    talmuiga_formatter copy = *formatter;
+    return talmuiga_arguments_number_sized(arguments, &copy, talmuiga_bytes(name), name ? strlen(name) : 0, talmuiga_bytes(text),
+                                           text_len);
+}
+
+/* talmuiga_arguments_form_sized in the same way; the skeleton has a length. */
+static inline uint32_t talmuiga_arguments_form(talmuiga_arguments *arguments, const talmuiga_formatter *formatter, const char *name,
+                                               const char *skeleton, size_t skeleton_len, const char *text, size_t text_len) {
+    talmuiga_formatter copy = *formatter;
+    return talmuiga_arguments_form_sized(arguments, &copy, talmuiga_bytes(name), name ? strlen(name) : 0, talmuiga_bytes(skeleton),
+                                         skeleton_len, talmuiga_bytes(text), text_len);
+}
+
+/* Leaves no values in arguments. */
+static inline void talmuiga_arguments_clear(talmuiga_arguments *arguments) {
+    talmuiga_arguments_clear_sized(arguments);
+}
+
+/* Closes and frees arguments that were made by talmuiga_arguments_open; null is closed already. */
+static inline void talmuiga_arguments_close(talmuiga_arguments *arguments) {
+    if (arguments) {
+        talmuiga_arguments_close_sized(arguments);
+        free(arguments);
+    }
+}
+
+/* A value of a message: a name and a text, both ending in a NUL. If the message wants a number, the text is its decimal; where it takes
+ * either, is_number says which it is. */
+typedef struct talmuiga_value {
+    const char *name;
+    const char *text;
+    int is_number;
+} talmuiga_value;
+
+/* Adds a number to arguments by the formatter of a skeleton, which is opened and closed: for the places of the skeleton, or, with null in
+ * its place, without one. */
+static inline uint32_t talmuiga_arguments_add_by(talmuiga_arguments *arguments, const char *tables, size_t tables_len, const char *locale,
+                                                 const char *skeleton, size_t skeleton_len, const talmuiga_value *value) {
+    talmuiga_formatter *formatter;
+    uint32_t status = talmuiga_formatter_open_skeleton(tables, tables_len, locale, skeleton, skeleton_len, NULL, &formatter);
+    if (status == TALMUIGA_DONE) {
+        status = skeleton ? talmuiga_arguments_form(arguments, formatter, value->name, skeleton, skeleton_len, value->text,
+                                                    strlen(value->text))
+                          : talmuiga_arguments_number(arguments, formatter, value->name, value->text, strlen(value->text));
+        talmuiga_formatter_close(formatter);
+    }
+    return status;
+}
+
+/* Whether a word of a text is a name. */
+static inline int talmuiga_is_word(const char *text, talmuiga_word word, const char *name) {
+    const size_t len = strlen(name);
+    return word.end - word.start == len && memcmp(text + word.start, name, len) == 0;
+}
+
+/* Adds a value to arguments, as the message of a text wants it. */
+static inline uint32_t talmuiga_arguments_add(talmuiga_arguments *arguments, const talmuiga_message *message, const char *text,
+                                              const char *tables, size_t tables_len, const char *locale, const talmuiga_value *value) {
+    talmuiga_named named;
+    talmuiga_place place;
+    uint32_t status, is_number = value->is_number != 0;
+    for (size_t at = 0; (status = talmuiga_message_name(message, at, &named)) == TALMUIGA_DONE; at++) {
+        if (talmuiga_is_word(text, named.name, value->name)) {
+            is_number = named.kind == TALMUIGA_NUMBER_ARGUMENT || (named.kind == TALMUIGA_ANY_ARGUMENT && is_number);
+        }
+    }
+    if (status != TALMUIGA_NO_SUCH_PLACE) {
+        return status;
+    }
+    if (!is_number) {
+        return talmuiga_arguments_text(arguments, value->name, value->text, strlen(value->text));
+    }
+    status = talmuiga_arguments_add_by(arguments, tables, tables_len, locale, NULL, 0, value);
+    for (size_t at = 0; status == TALMUIGA_DONE && talmuiga_message_place(message, at, &place) == TALMUIGA_DONE; at++) {
+        if (talmuiga_is_word(text, place.name, value->name)) {
+            status = talmuiga_arguments_add_by(arguments, tables, tables_len, locale, text + place.skeleton.start,
+                                               place.skeleton.end - place.skeleton.start, value);
+        }
+    }
+    return status;
+}
+
+/* Writes the message of a text once, with values: message, arguments and formatters are opened and closed. Locale and text end in a NUL.
+ * The statuses are those of the calls that it makes, and so is the fault, which may be null; what else it sets is as of
+ * talmuiga_message_write. A caller that writes a message often opens it once. */
+static inline uint32_t talmuiga_message_format(const char *tables, size_t tables_len, const char *locale, const char *text,
+                                               const talmuiga_value *values, size_t count, char *output, size_t output_len,
+                                               size_t *length, talmuiga_fault *fault) {
+    talmuiga_message *message;
+    talmuiga_arguments *arguments = talmuiga_arguments_open();
+    uint32_t status = talmuiga_message_open(tables, tables_len, locale, text, strlen(text), fault, &message);
+    *length = 0;
+    if (status == TALMUIGA_DONE && !arguments) {
+        status = TALMUIGA_OUT_OF_MEMORY;
+    }
+    for (size_t at = 0; status == TALMUIGA_DONE && at < count; at++) {
+        status = talmuiga_arguments_add(arguments, message, text, tables, tables_len, locale, values + at);
+    }
+    if (status == TALMUIGA_DONE) {
+        status = talmuiga_message_write(message, arguments, output, output_len, length, NULL);
+    }
+    talmuiga_arguments_close(arguments);
+    talmuiga_message_close(message);
+    return status;
 }
 
 #ifdef __cplusplus

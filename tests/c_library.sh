@@ -35,8 +35,8 @@ build_after_ci() {
     for library in "$root"/crates/*/out/rlib; do
         words+=(-L "dependency=$library")
     done
-    for name in decimal_lines icu_decimal icu_decimal_options icu_provider icu_range_tables icu_ranges icu_table_entries icu_tables \
-        number_forms number_ranges number_skeleton skeleton_settings writeable; do
+    for name in decimal_lines icu_decimal icu_decimal_options icu_message icu_provider icu_range_tables icu_ranges icu_table_entries \
+        icu_tables kept_messages number_forms number_ranges number_skeleton skeleton_settings writeable; do
         words+=(--extern "$name=$root/crates/$name/out/rlib/$name.rlib")
     done
     (cd crates/talmuiga_c && "$kit/bin/rattle" build --crate-name talmuiga_c src/lib.rt --crate-type staticlib \
@@ -346,6 +346,11 @@ if is_there "${compiler[0]}"; then
     builds ranges tests/c_ranges.c "$folder/libtalmuiga.a" -O1 -g -fsanitize=address,undefined -pthread
     judge 'C: ranges' "$folder/ranges" tables/six_locales.json tables/english.json crates/rows_reports/data/numbers.json
     for sanitizer in address,undefined thread; do
+        builds messages tests/c_messages.c "$folder/libtalmuiga.a" -O1 -g "-fsanitize=$sanitizer" -pthread
+        judge "C: messages, with $sanitizer" "$folder/messages" crates/rows_messages/data/messages.json tables/english.json \
+            tables/six_locales.json
+    done
+    for sanitizer in address,undefined thread; do
         judge "C: tests/c_hostile.c builds with ${sanitizer}" "${compiler[@]}" -std=gnu11 -O1 -g -Wall -Wextra -Wcast-qual -Werror \
             "-fsanitize=$sanitizer" -pthread -Iinclude tests/c_hostile.c "$folder/libtalmuiga.a" -o "$folder/hostile"
         judge "C: bad input, with ${sanitizer}" "$folder/hostile" tables/six_locales.json
@@ -436,6 +441,34 @@ if is_there sqlite3 && [ -e /usr/include/sqlite3ext.h ]; then
     in_sql 'Error: stepping, skeleton: unknown stem, byte 2' "SELECT number_range_format(3, 5, 'de', '% foo')" "$folder/ranges.json"
     in_sql 'Error: stepping, no ranges of numbers with a unit or a name' \
         "SELECT number_range_format(3, 5, 'en', 'currency/EUR unit-width-full-name')" "$folder/ranges.json"
+    in_sql $'1.234,5 Dateien 1.234,50\u00a0€|Ana: 1.000|1000|1 Datei|||x' "SELECT
+        message_format('{n, plural, one{# Datei} other{# Dateien}} {n, number, ::currency/EUR}', 'de', 'n', 1234.5),
+        message_format('{who}: {n}', 'de', 'who', 'Ana', 'n', 1000), message_format('{n}', 'de', 'n', '1000'),
+        message_format('{n, plural, one{# Datei} other{# Dateien}}', 'de', 'n', '1', 'who', 5),
+        message_format('{n}', 'de', 'n', NULL), message_format('{n}', NULL, 'n', 1), message_format('x', 'de')" tables/six_locales.json
+    in_sql $'0 files\n1 file\n2 files' "WITH n(i) AS (VALUES(0), (1), (2))
+        SELECT message_format('{n, plural, one{# file} other{# files}}', 'en', 'n', i) FROM n" tables/six_locales.json
+    in_sql $'22nd|Ana owes \u20ac1,250.00 (1.2K)' "SELECT
+        message_format('{n, selectordinal, one{#st} two{#nd} few{#rd} other{#th}}', 'en', 'n', 22),
+        message_format('{who} owes {debt, number, ::currency/EUR} ({debt, number, ::K})', 'en', 'who', 'Ana', 'debt', '1250')" \
+        tables/english.json
+    in_sql 'Error: stepping, message: the text ends within an argument, byte 2' "SELECT message_format('{n', 'de')" tables/six_locales.json
+    in_sql 'Error: stepping, message: not UTF-8, byte 1' "SELECT message_format('{' || CAST(x'e282' AS TEXT), 'de')" tables/six_locales.json
+    in_sql 'Error: stepping, message: an argument is missing: n' "SELECT message_format('{n}', 'de', 'm', 5)" tables/six_locales.json
+    in_sql 'Error: stepping, message: not a decimal: n' "SELECT message_format('{n, plural, other{#}}', 'de', 'n', 'x')" \
+        tables/six_locales.json
+    in_sql "Error: stepping, message: an argument isn't a text: n" "SELECT message_format('{n, select, other{#}}', 'de', 'n', 1)" \
+        tables/six_locales.json
+    in_sql 'Error: stepping, message: no data: n' "SELECT message_format('{n, number, ::currency/CHF}', 'de', 'n', 1)" \
+        tables/six_locales.json
+    in_sql 'Error: stepping, words refused' "SELECT message_format('x', 'e_n')" tables/six_locales.json
+    in_sql 'Error: stepping, no data' "SELECT message_format('{n, selectordinal, other{x}}', 'de', 'n', 1)" tables/six_locales.json
+    in_sql 'Error: stepping, message_format: a text, a locale, and names with values' "SELECT message_format('x', 'de', 'n')" \
+        tables/six_locales.json
+    # more messages than are kept
+    in_sql $'100\n100' "WITH RECURSIVE n(i) AS (SELECT 1 UNION ALL SELECT i + 1 FROM n WHERE i < 100)
+        SELECT count(*) FROM n WHERE message_format('{n} of ' || i, 'de', 'n', 7) = '7 of ' || i
+        UNION ALL SELECT count(*) FROM n WHERE message_format('{n} of ' || i, 'de', 'n', 7) = '7 of ' || i" tables/six_locales.json
     # SQLite has no NaN: it is NULL
     in_sql '|' "SELECT number_format(9e999 - 9e999, 'de', ''), decfmt(0.0 / 0, 'en')" tables/six_locales.json
     in_sql 'Error: stepping, not a decimal' "SELECT number_format(9e999, 'de', '')" tables/six_locales.json

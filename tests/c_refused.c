@@ -1,6 +1,6 @@
 /* Formatters that are kept, where one allocation finds no memory (tests/refuse_nth.c, loaded before): by the tables of the
  * first word one is opened by words and one by a skeleton, each formats lines, one number and its parts, and is closed; a third one, in
- * English, writes a range. Then other tables are judged and listed, and a canonical text is written. What was refused is asked once more,
+ * English, writes a range, and a message is opened, given two values and written. Then other tables are judged and listed, and a canonical text is written. What was refused is asked once more,
  * and then all is as ever; where it was refused nothing else is told. The tables lie in memory of their own, which isn't refused. */
 #include "talmuiga.h"
 
@@ -70,6 +70,53 @@ static int writes_range(void) {
     return 0;
 }
 
+/* Writes a message by the tables with a number in a place of its own and a text; 0, or another status of this program. */
+static int writes_message(size_t len) {
+    static const char text[] = "{who}: {n, plural, one{# file} other{# files}}, {n, number, ::K}";
+    static const char wanted[] = "Ana: 1,650 files, 1.6K";
+    size_t length;
+    talmuiga_message *message;
+    talmuiga_formatter *plain, *compact;
+    talmuiga_named named;
+    talmuiga_fault fault = {7, 7, 7};
+    uint32_t status = talmuiga_message_open(tables, len, "en", text, sizeof text - 1, &fault, &message);
+    if (fault.byte || fault.kind || fault.thing) return 13;
+    if (status == TALMUIGA_OUT_OF_MEMORY && !message) {
+        status = talmuiga_message_open(tables, len, "en", text, sizeof text - 1, &fault, &message);
+    }
+    if (status) return 14;
+    talmuiga_arguments *arguments = talmuiga_arguments_open();
+    if (!arguments) arguments = talmuiga_arguments_open();
+    status = talmuiga_formatter_open_english_skeleton("", 0, NULL, &plain);
+    if (status == TALMUIGA_OUT_OF_MEMORY) status = talmuiga_formatter_open_english_skeleton("", 0, NULL, &plain);
+    if (status == TALMUIGA_DONE) status = talmuiga_formatter_open_english_skeleton("K", 1, NULL, &compact);
+    if (status == TALMUIGA_OUT_OF_MEMORY) status = talmuiga_formatter_open_english_skeleton("K", 1, NULL, &compact);
+    if (status || !arguments) return 15;
+    status = talmuiga_message_name(message, 1, &named);
+    if (status == TALMUIGA_OUT_OF_MEMORY && named.name.end == 0) status = talmuiga_message_name(message, 1, &named);
+    if (status || named.kind != TALMUIGA_NUMBER_ARGUMENT) return 16;
+    status = talmuiga_arguments_text(arguments, "who", "Ana", 3);
+    if (status == TALMUIGA_OUT_OF_MEMORY) status = talmuiga_arguments_text(arguments, "who", "Ana", 3);
+    if (status) return 17;
+    status = talmuiga_arguments_number(arguments, plain, "n", "1650", 4);
+    if (status == TALMUIGA_OUT_OF_MEMORY) status = talmuiga_arguments_number(arguments, plain, "n", "1650", 4);
+    if (status) return 18;
+    status = talmuiga_arguments_form(arguments, compact, "n", "K", 1, "1650", 4);
+    if (status == TALMUIGA_OUT_OF_MEMORY) status = talmuiga_arguments_form(arguments, compact, "n", "K", 1, "1650", 4);
+    if (status) return 19;
+    memcpy(output, "xx", 2);
+    status = talmuiga_message_write(message, arguments, output, sizeof output, &length, NULL);
+    if (status == TALMUIGA_OUT_OF_MEMORY && length == 0 && output[0] == 'x') {
+        status = talmuiga_message_write(message, arguments, output, sizeof output, &length, NULL);
+    }
+    if (status || length != sizeof wanted - 1 || memcmp(output, wanted, length)) return 20;
+    talmuiga_formatter_close(plain);
+    talmuiga_formatter_close(compact);
+    talmuiga_message_close(message);
+    talmuiga_arguments_close(arguments);
+    return 0;
+}
+
 int main(int count, char **words) {
     FILE *file = count > 1 ? fopen(words[1], "rb") : NULL;
     if (!file) return 2;
@@ -81,6 +128,8 @@ int main(int count, char **words) {
     }
     int no_range = writes_range();
     if (no_range) return no_range;
+    int no_message = writes_message(len);
+    if (no_message) return no_message;
     memcpy(output, "xx", 2);
     uint32_t status = talmuiga_tables_fault("{", 1, output, sizeof output, &length);
     if (status == TALMUIGA_OUT_OF_MEMORY && length == 0 && output[0] == 'x') {

@@ -47,6 +47,75 @@ static std::string bracketed(const talmuiga::marked_text &marked) {
     return out.str();
 }
 
+/* Why a text is no message: byte, kind and words. */
+template <class Call> static std::string message_fault_of(Call call) {
+    try {
+        call();
+        return "none";
+    } catch (const talmuiga::message_refused &error) {
+        return std::to_string(error.byte()) + ' ' + std::to_string(error.kind()) + ' ' + error.what();
+    }
+}
+
+/* Why a message isn't written: the name of an argument, and the status in words. */
+template <class Call> static std::string argument_of(Call call) {
+    try {
+        call();
+        return "none";
+    } catch (const talmuiga::argument_refused &error) {
+        return error.name() + ": " + error.what();
+    }
+}
+
+/* Messages, by texts of ICU 72 and of the program locnum. */
+static void as_messages(const std::string &tables) {
+    using talmuiga::decimal;
+    using talmuiga::message;
+    const message files("{n, plural, =0{no files} one{# file} other{# files}}"),
+        places("{n, selectordinal, one{#st} two{#nd} few{#rd} other{#th}}"),
+        forms("{n, number, ::.00} ({n, number, ::compact-short}), {n}, {who}, {n, number, ::.00}"),
+        whose("{who, select, female{her} other{their}}");
+    judge("a message", files({{"n", 0}}) == "no files" && files({{"n", 1}}) == "1 file" && files({{"n", 1234567}}) == "1,234,567 files");
+    judge("numbers of each kind", files({{"n", 1.5}}) == "1.5 files" && files({{"n", "1"}}) == "1 file" &&
+                                      files({{"n", decimal{"-1"}}}) == "-1 file" && files({{"n", 2.0L}}) == "2 files" &&
+                                      files({{"n", -1}}) == "-1 file" && files({{"n", true}}) == "1 file");
+    judge("ordinals", places({{"n", 22}}) == "22nd" && places({{"n", 112u}}) == "112th");
+    judge("places with a form", forms({{"n", 1234567}, {"who", "Ana"}}) == "1,234,567.00 (1.2M), 1,234,567, Ana, 1,234,567.00");
+    judge("values in a vector",
+          forms(std::vector<talmuiga::value>{{"who", std::string("Ben")}, {"n", 1}, {"n", 2}}) == "1.00 (1), 1, Ben, 1.00");
+    judge("a choice by a text", whose({{"who", "female"}}) == "her" && whose({{"who", std::string_view("x")}}) == "their");
+    judge("texts and numbers in a place", message("{n}")({{"n", "1000"}}) == "1000" && message("{n}")({{"n", 1000}}) == "1,000");
+    judge("a long message", message(std::string(3000, 'a'))({}) == std::string(3000, 'a'));
+    message german(tables, "de", "{n, plural, one{# Datei} other{# Dateien}} {n, number, ::currency/EUR}");
+    const message moved(std::move(german));
+    judge("by tables, and moved", moved({{"n", 1234.5}}) == "1.234,5 Dateien 1.234,50\u00a0€");
+    judge("a text in a locale without numbers", message(tables, "xx", "{who}")({{"who", "Ana"}}) == "Ana");
+    judge("a number there", argument_of([&] { message(tables, "xx", "{who}")({{"who", 1}}); }) == "who: no data");
+    judge("a fault", message_fault_of([] { message("{n, plural, one{x}}"); }) == "18 15 no `other`");
+    judge("a fault by tables", message_fault_of([&] { message(tables, "de", "{n}}"); }) == "3 4 the brace closes nothing");
+    judge("a fault of a skeleton", message_fault_of([] { message("{n, number, ::scientific}"); }) == "14 10 left out");
+    judge("not UTF-8", message_fault_of([] { message("a\xff"); }) == "1 1 not UTF-8");
+    judge("refused", refusal([&] { message(tables, "e_n", "x"); }) == TALMUIGA_WORDS_REFUSED &&
+                         refusal([&] { message("{", "en", "x"); }) == TALMUIGA_TABLES_REFUSED &&
+                         refusal([&] { message(tables, "de", "{n, selectordinal, other{#}}"); }) == TALMUIGA_NO_DATA &&
+                         refusal([&] { message(tables, "de", "{n, number, ::currency/CHF}"); }) == TALMUIGA_NO_DATA);
+    judge("missing", argument_of([&] { forms({{"n", 1}}); }) == "who: an argument is missing");
+    judge("no number", argument_of([&] { files({{"n", "x"}}); }) == "n: not a decimal");
+    judge("not a text", argument_of([&] { whose({{"who", 1}}); }) == "who: an argument isn't a text");
+    judge("not UTF-8 in a value", argument_of([&] { whose({{"who", "\xff"}}); }) == "who: not UTF-8");
+    judge("NaN", argument_of([&] { files({{"n", 0.0 / 0.0}}); }) == "n: not a decimal");
+    judge("a value that no name asks for", whose({{"who", "x"}, {"m", 1}}) == "their");
+    std::vector<std::thread> threads;
+    std::atomic<int> right{0};
+    for (int i = 0; i < 4; i++) {
+        threads.emplace_back([&] {
+            for (int n = 2; n < 500; n++) right += files({{"n", n}}) == std::to_string(n) + " files";
+        });
+    }
+    for (std::thread &thread : threads) thread.join();
+    judge("four threads", right == 4 * 498);
+}
+
 /* Ranges by skeletons. */
 static void as_ranges(const std::string &tables) {
     using talmuiga::skeleton;
@@ -164,6 +233,7 @@ int main(int, char **words) {
     const std::string tables = whole(words[1]);
     by_skeletons(whole(words[2]));
     in_english();
+    as_messages(whole(words[2]));
     as_ranges(whole(words[2]));
     by_names(whole(words[2]));
     on_bad_input(whole(words[2]));

@@ -44,4 +44,5 @@ awk '/^```python$/ { shown = 1; next } /^```$/ { shown = 0 } shown' README.md do
 "$folder/fresh/bin/python" -m doctest "$folder/README" || failed_all 'as README.md and docs/LIBRARY.md show'
 # the tests count their cases themselves
 cd "$folder" || exit 1
-"$folder/fresh/bin/python" "$root/python/tests/test_talmuiga.py" "$root/tables/sample.json" "$root/tables/six_locales.json" || failed_all 'the tests end'
+"$folder/fresh/bin/python" "$root/python/tests/test_talmuiga.py" "$root/tables/sample.json" "$root/tables/six_locales.json" \
+    "$root/crates/rows_messages/data/messages.json" || failed_all 'the tests end'

@@ -1,6 +1,6 @@
-"""Cases of the Python package, by the tables of the two words. The last line says how many there were.
+"""Cases of the Python package, by the tables of the three words. The last line says how many there were.
 
-Texts are those of ICU 72 and of ECMA-402's `Intl.NumberFormat`, by the tables of the two words; Babel's are those of its documentation.
+Texts are those of ICU 72 and of ECMA-402's `Intl.NumberFormat`, by the tables of the words; Babel's are those of its documentation.
 """
 import array
 import importlib
@@ -19,11 +19,12 @@ from typing import Any
 
 import talmuiga
 import talmuiga.babel
-from talmuiga import (Descending, Formatter, NoData, NoPattern, NoRanges, NotFormatted, Number, SkeletonRefused, TablesRefused,
-                      WordsRefused)
+from talmuiga import (ArgumentRefused, Descending, Formatter, Message, MessageRefused, NoData, NoPattern, NoRanges, NotFormatted, Number,
+                      SkeletonRefused, TablesRefused, WordsRefused)
 
 SAMPLE = open(sys.argv[1], "rb").read()
 SIX = open(sys.argv[2], "rb").read()
+NINE = open(sys.argv[3], "rb").read()
 ENGLISH = Formatter.english()
 CASES = FAILED = 0
 
@@ -43,6 +44,10 @@ def judge(name: str, wanted: object, call: Callable[[], object]) -> None:
             given = (type(error), str(error))
         elif isinstance(error, SkeletonRefused):
             given = (type(error), error.byte, error.kind, error.words)
+        elif isinstance(error, MessageRefused):
+            given = (type(error), error.byte, error.kind)
+        elif isinstance(error, ArgumentRefused):
+            given = (type(error), error.name, error.reason)
     if given != wanted:
         FAILED += 1
         print(f"FAILED {name}: wanted {wanted!r}, given {given!r}")
@@ -270,6 +275,66 @@ judge("ranges without a skeleton", TypeError, lambda: Formatter(RANGES, "de", ra
 judge("English ranges without a skeleton", TypeError, lambda: Formatter.english(ranges=True))
 judge("exceptions of ranges", True, lambda: issubclass(NoPattern, talmuiga.Refused) and issubclass(Descending, ValueError)
       and issubclass(NoRanges, ValueError))
+
+# Messages, by texts of ICU 72, and as the program locnum writes them.
+FILES_RU = "{n, plural, one{# файл} few{# файла} many{# файлов} other{# файла}}"
+FILES_PL = "{n, plural, one{# plik} few{# pliki} many{# plików} other{# pliku}}"
+FILES = "{n, plural, =0{no files} one{# file} other{# files}}"
+MESSAGES: list[tuple[bytes, str, str, dict[str, Any], str]] = [
+    (NINE, "en", FILES, {"n": 0}, "no files"), (NINE, "en", FILES, {"n": 1}, "1 file"), (NINE, "en", FILES, {"n": 1234567}, "1,234,567 files"),
+    (NINE, "en", FILES, {"n": Decimal("1.5")}, "1.5 files"), (NINE, "en", FILES, {"n": 1.0}, "1 file"), (NINE, "en", FILES, {"n": "1"}, "1 file"),
+    (NINE, "en", FILES, {"n": "1.00"}, "1 file"), (NINE, "en", FILES, {"n": -1}, "-1 file"),
+    (NINE, "ru", FILES_RU, {"n": 21}, "21 файл"), (NINE, "ru", FILES_RU, {"n": 12}, "12 файлов"), (NINE, "ru", FILES_RU, {"n": 1.5}, "1,5 файла"),
+    (NINE, "pl", FILES_PL, {"n": 22}, "22 pliki"), (NINE, "pl", FILES_PL, {"n": 5}, "5 plików"),
+    (NINE, "ar-EG", "{n, plural, few{# ملفات} many{# ملفًا} other{# ملف}}", {"n": 11}, "١١ ملفًا"),
+    (NINE, "lv", "{n, plural, zero{# failu} one{# fails} other{# faili}}", {"n": 10}, "10 failu"),
+    (NINE, "en", "{who, select, female{her} male{his} other{their}} {n, plural, one{file} other{files}}", {"who": "female", "n": 2}, "her files"),
+    (NINE, "de", "{0} von {1}", {"0": 3, "1": 1000}, "3 von 1.000"), (NINE, "en", "{who}", {"who": "{n} # '"}, "{n} # '"),
+    # a text that spells a number is a text where the message takes either
+    (NINE, "en", "{n} {n, plural, other{#}}", {"n": "1000"}, "1,000 1,000"), (NINE, "en", "{n}", {"n": "1000"}, "1000"),
+    (NINE, "en", "{n}", {"n": 1000}, "1,000"), (NINE, "xx", "{who}", {"who": "Ana"}, "Ana"), (NINE, "en", "", {"n": 1}, ""),
+    (SIX, "de", "{n, plural, one{# Datei} other{# Dateien}} {n, number, ::.00}", {"n": 1234.5}, "1.234,5 Dateien 1.234,50"),
+    (SIX, "de", "{n, number, ::currency/EUR} {m, number, ::currency/EUR}, {n, number, ::K}", {"n": 1000, "m": "2"},
+     "1.000,00\u00a0€ 2,00\u00a0€, 1000"),
+    (NINE, "en", "a" * 3000, {}, "a" * 3000)]
+OTHER: Any = object()
+for given_tables, locale, text, values, wanted in MESSAGES:
+    judge(f"the message {text[:30]} of {values}", wanted, lambda: Message(given_tables, locale, text)(values))
+ORDINAL = Message.english("{n, selectordinal, one{#st} two{#nd} few{#rd} other{#th}}")
+judge("ordinals in English", ["1st", "22nd", "3rd", "112th"], lambda: [ORDINAL(n=n) for n in (1, 22, 3, 112)])
+PLACES = Message.english("{n, number, ::.00} ({n, number, ::compact-short}), {n}, {who}")
+judge("places in English", "1,234,567.00 (1.2M), 1,234,567, Ana", lambda: PLACES(n=1234567, who="Ana"))
+judge("names with what is asked of them", {"n": "number", "who": "any"}, lambda: PLACES.names)
+judge("values by a mapping and by names", "1.00 (1), 1, Ben", lambda: PLACES.format({"n": 1, "who": "Ana"}, who="Ben"))
+judge("a value that no name asks for", "Ana", lambda: Message.english("{who}")(who="Ana", n=OTHER))
+judge("a missing argument", (ArgumentRefused, "who", "missing"), lambda: PLACES(n=1))
+judge("a missing argument in another arm", (ArgumentRefused, "m", "missing"),
+      lambda: Message.english("{n, plural, one{a} other{{m}}}")(n=1))
+judge("a text for a number", (ArgumentRefused, "n", "not a decimal"), lambda: PLACES(n="x", who="Ana"))
+judge("a number for a text", (ArgumentRefused, "n", "not a text"), lambda: Message.english("{n, select, a{b} other{c}}")(n=1))
+judge("a float that is no number", (ArgumentRefused, "n", "not a decimal"), lambda: Message.english("{n}")(n=float("nan")))
+judge("too many digits", (ArgumentRefused, "n", "too many digits"), lambda: PLACES(n="9" * 70000, who="Ana"))
+judge("an overflow in a place", (ArgumentRefused, "n", "overflow"), lambda: Message.english("{n, number, ::K}")(n="9" * 32768))
+judge("half of a pair as a value", (ArgumentRefused, "n", "not UTF-8"), lambda: Message.english("{n}")(n="\ud800"))
+judge("neither a number nor a text", TypeError, lambda: Message.english("{n}")(n=OTHER))
+judge("a long text of a message", "9" * 3 + ",999" * 999, lambda: Message.english("{n}")(n=10**3000 - 1))
+for text, byte, kind in [("{n, plural, one", 15, "end"), ("{n}}", 3, "unopened"), ("'{a", 0, "openQuote"), ("{01}", 1, "name"),
+                         ("{n, date}", 4, "kind"), ("{n, number, integer}", 12, "style"), ("{n, number, ::scientific}", 14, "skeleton"),
+                         ("{n,plural,other{}}{n,select,other{}}", 21, "twoKinds"), ("{n, plural, offset:1 other{}}", 12, "offset"),
+                         ("{n, plural, uno{x} other{}}", 12, "key"), ("{n, plural, one{x} one{y} other{}}", 19, "repeated"),
+                         ("{n, plural, one{x}}", 18, "noOther"), ("{n plural}", 3, "unexpected"), ("é{", 3, "end"), ("a\ud800", 1, "notUtf8"),
+                         ("a" * 65536, 65535, "tooLong"), ("{a,select,other{" * 9, 128, "tooDeep")]:
+    judge(f"no message: {text[:40]!r}", (MessageRefused, byte, kind), lambda: Message.english(text))
+    judge(f"no message by tables: {text[:40]!r}", (MessageRefused, byte, kind), lambda: Message(NINE, "en", text))
+judge("no such locale", WordsRefused, lambda: Message(NINE, "e_n", "{n}}"))
+judge("a NUL in a locale", WordsRefused, lambda: Message(NINE, "en\0", "{n}"))
+judge("half of a pair in a locale", WordsRefused, lambda: Message(NINE, "\ud800", "{n}"))
+judge("tables that are none", (TablesRefused, "the tables are refused: not JSON"), lambda: Message(b"{", "en", "{n}"))
+judge("no plural rules", NoData, lambda: Message(NINE, "xx", FILES))
+judge("no ordinal rules", NoData, lambda: Message(NINE, "en", "{n, selectordinal, other{#}}"))
+judge("no currency for a place", NoData, lambda: Message(SIX, "de", "{n, number, ::currency/CHF}"))
+judge("no numbers of a locale", NoData, lambda: Message(SIX, "xx", "{n}")(n=1))
+judge("exceptions of messages", True, lambda: issubclass(MessageRefused, talmuiga.Refused) and issubclass(ArgumentRefused, ValueError))
 
 # Skeletons of ECMA-402's options.
 SKELETONS: list[tuple[dict[str, Any], str]] = [

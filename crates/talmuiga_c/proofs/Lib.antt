@@ -1,4 +1,5 @@
 pub mod Answered
+pub mod Asking
 pub mod Owned
 pub mod Patterned
 pub mod Reading

@@ -3,10 +3,15 @@ pub mod Asked
 pub mod Endings
 pub mod English
 pub mod Faults
+pub mod Given
 pub mod Handle
 pub mod Kept
 pub mod Listing
 pub mod Marked
+pub mod MessageFaults
+pub mod MessagePlaces
+pub mod MessageStatuses
+pub mod Messages
 pub mod Patterns
 pub mod Ranges
 pub mod SkeletonFaults

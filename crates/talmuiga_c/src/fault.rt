@@ -88,7 +88,7 @@ fn thing_number(thing: Thing) -> u32
 }
 
 /// The number of the kind of a fault.
-fn kind_number(kind: FaultKind) -> u32
+pub fn kind_number(kind: FaultKind) -> u32
     ensures { result ≡ kind_number kind }
 {
     match kind {

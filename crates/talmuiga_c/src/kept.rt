@@ -9,7 +9,7 @@ ghost use Rattle.talmuiga_c.specs.Handle.{empty};
 ghost use Rattle.talmuiga_c.specs.Kept.{IsWrittenSoFar, IsShown, OpensIn, WritesSome};
 
 use crate::form_lines::format_some_by;
-use crate::handle::Formatter;
+use crate::handle::Room;
 use crate::output::put_text;
 use crate::status::{self, status_of, text_status};
 use decimal_lines::{FillError, Mode, Progress, TextError, Words, format_some, format_text};
@@ -45,7 +45,7 @@ pub struct Reached {
 }
 
 /// Opens a formatter in the mode that the arguments make of the tables.
-pub fn open_asked(alloc: Global, words: &Words<'_>, tables: &[u8], formatter: &mut Formatter) -> u32
+pub fn open_asked(alloc: Global, words: &Words<'_>, tables: &[u8], formatter: &mut Room) -> u32
     requires empty { formatter.old.held ≡ empty }
     ensures opens { OpensIn (mode_asked words.now tables.now) formatter.new.held result }
 {

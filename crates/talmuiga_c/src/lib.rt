@@ -7,11 +7,20 @@ mod english;
 mod fault;
 mod form_lines;
 mod formatting;
+mod given;
+mod given_calls;
 mod handle;
+mod held;
 mod judging;
 mod kept;
 mod listing;
 mod marked;
+mod message_calls;
+mod message_fault;
+mod message_places;
+mod message_status;
+mod messages;
+mod opened;
 mod output;
 mod patterns;
 mod range_status;
@@ -32,7 +41,7 @@ ghost use Rattle.talmuiga_c.specs.Marked.{IsShownInParts};
 ghost use Rattle.talmuiga_c.specs.Ranges.{IsRange, OpensRanges};
 ghost use Rattle.std.specs.Prelude.{◌≡◌, Ok};
 ghost use Rattle.std.specs.Mem.{type_size};
-ghost use Rattle.talmuiga_c.specs.contracts.kept.Kept.{the_row};
+ghost use Rattle.talmuiga_c.specs.contracts.held.Held.{the_row};
 ghost use Rattle.talmuiga_c.specs.declared.kept.Kept.{Kept};
 ghost use Rattle.talmuiga_c.specs.Skeletons.{IsCanonical, OpensSkeleton};
 
@@ -41,7 +50,8 @@ use decimal_lines::Mode;
 use english::ENGLISH;
 use fault::Fault;
 use formatting::{format_asked, format_by};
-use handle::Formatter;
+use handle::Room;
+use held::Held;
 use judging::judge_in_words;
 use kept::{Kept, Reached, format_lines_in, format_one_in, open_asked};
 use listing::list_tables;
@@ -100,20 +110,17 @@ pub extern "C" fn talmuiga_format_lines_sized(
     }
 }
 
-/// How many bytes of room a formatter needs, whose pointer is aligned to 16.
+/// How many bytes of room a formatter, a message or arguments need, whose pointer is aligned to 16.
 #[unsafe(no_mangle)]
 pub extern "C" fn talmuiga_formatter_room() -> usize
     ensures { result ≡ type_size the_row }
 {
-    mem::size_of::<Kept>()
+    mem::size_of::<Held>()
 }
 
 /// Opens a formatter in plain English.
 #[unsafe(no_mangle)]
-pub extern "C" fn talmuiga_formatter_open_english_sized(
-    alloc: Global,
-    formatter: &mut Formatter,
-) -> u32
+pub extern "C" fn talmuiga_formatter_open_english_sized(alloc: Global, formatter: &mut Room) -> u32
     requires empty { formatter.old.held ≡ empty }
     ensures opens { OpensIn (Ok (Plain english)) formatter.new.held result }
 {
@@ -137,7 +144,7 @@ pub extern "C" fn talmuiga_formatter_open_sized(
     system: &[u8],
     style: &[u8],
     grouping: &[u8],
-    formatter: &mut Formatter,
+    formatter: &mut Room,
 ) -> u32
     requires empty { formatter.old.held ≡ empty }
     ensures opens { Opens (words_asked locale.now system.now style.now grouping.now) tables.now
@@ -160,7 +167,7 @@ pub extern "C" fn talmuiga_formatter_open_skeleton_sized(
     locale: &[u8],
     skeleton: &[u8],
     fault: &mut Fault,
-    formatter: &mut Formatter,
+    formatter: &mut Room,
 ) -> u32
     requires empty { formatter.old.held ≡ empty }
     ensures opens { OpensSkeleton locale.now skeleton.now tables.now formatter.new.held
@@ -178,7 +185,7 @@ pub extern "C" fn talmuiga_formatter_open_english_skeleton_sized(
     alloc: Global,
     skeleton: &[u8],
     fault: &mut Fault,
-    formatter: &mut Formatter,
+    formatter: &mut Room,
 ) -> u32
     requires empty { formatter.old.held ≡ empty }
     ensures opens { OpensSkeleton english_locale skeleton.now english_tables formatter.new.held
@@ -210,7 +217,7 @@ pub extern "C" fn talmuiga_skeleton_canonical_sized(
 #[unsafe(no_mangle)]
 pub extern "C" fn talmuiga_formatter_format_sized(
     alloc: Global,
-    formatter: &mut Formatter,
+    formatter: &mut Room,
     input: &[u8],
     output: &mut [u8],
     reached: &mut Reached,
@@ -233,7 +240,7 @@ pub extern "C" fn talmuiga_formatter_format_sized(
 #[unsafe(no_mangle)]
 pub extern "C" fn talmuiga_formatter_one_sized(
     alloc: Global,
-    formatter: &mut Formatter,
+    formatter: &mut Room,
     text: &[u8],
     output: &mut [u8],
     length: &mut usize,
@@ -256,7 +263,7 @@ pub extern "C" fn talmuiga_formatter_one_sized(
 #[unsafe(no_mangle)]
 pub extern "C" fn talmuiga_formatter_parts_sized(
     alloc: Global,
-    formatter: &mut Formatter,
+    formatter: &mut Room,
     text: &[u8],
     output: &mut [u8],
     length: &mut usize,
@@ -286,7 +293,7 @@ pub extern "C" fn talmuiga_formatter_open_ranges_sized(
     locale: &[u8],
     skeleton: &[u8],
     fault: &mut Fault,
-    formatter: &mut Formatter,
+    formatter: &mut Room,
 ) -> u32
     requires empty { formatter.old.held ≡ empty }
     ensures opens { OpensRanges locale.now skeleton.now tables.now formatter.new.held
@@ -304,7 +311,7 @@ pub extern "C" fn talmuiga_formatter_open_english_ranges_sized(
     alloc: Global,
     skeleton: &[u8],
     fault: &mut Fault,
-    formatter: &mut Formatter,
+    formatter: &mut Room,
 ) -> u32
     requires empty { formatter.old.held ≡ empty }
     ensures opens { OpensRanges english_locale skeleton.now english_tables formatter.new.held
@@ -319,7 +326,7 @@ pub extern "C" fn talmuiga_formatter_open_english_ranges_sized(
 #[unsafe(no_mangle)]
 pub extern "C" fn talmuiga_formatter_range_sized(
     alloc: Global,
-    formatter: &mut Formatter,
+    formatter: &mut Room,
     start: &[u8],
     end: &[u8],
     output: &mut [u8],
@@ -340,7 +347,7 @@ pub extern "C" fn talmuiga_formatter_range_sized(
 // promise: The room of a closed formatter is free again.
 // mutations: kept_closed_with_its_mode_inside
 #[unsafe(no_mangle)]
-pub extern "C" fn talmuiga_formatter_close_sized(formatter: &mut Formatter)
+pub extern "C" fn talmuiga_formatter_close_sized(formatter: &mut Room)
     ghost kept: { Kept }
     requires open { formatter.old.held ≡ holding kept }
     ensures closed { formatter.new.held ≡ empty }

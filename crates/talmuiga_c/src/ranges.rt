@@ -9,7 +9,7 @@ ghost use Rattle.talmuiga_c.specs.Ranges.{HoldsRange, IsRange, OpensBoth, OpensR
 ghost use Rattle.talmuiga_c.specs.Skeletons.{form_asked};
 
 use crate::fault::{Fault, no_fault};
-use crate::handle::Formatter;
+use crate::handle::Room;
 use crate::kept::Kept;
 use crate::output::put_text;
 use crate::patterns::pattern_asked;
@@ -27,7 +27,7 @@ fn open_with(
     settings: &Settings<'_>,
     tables: &[u8],
     form: Form,
-    formatter: &mut Formatter,
+    formatter: &mut Room,
 ) -> u32
     requires empty { formatter.old.held ≡ empty }
     ensures opens { OpensBoth (Ok form) (pattern_asked settings.now tables.now) formatter.new.held
@@ -46,12 +46,7 @@ fn open_with(
 }
 
 /// Opens a formatter of the form and of the range pattern that the settings make of the tables.
-fn open_both(
-    alloc: Global,
-    settings: &Settings<'_>,
-    tables: &[u8],
-    formatter: &mut Formatter,
-) -> u32
+fn open_both(alloc: Global, settings: &Settings<'_>, tables: &[u8], formatter: &mut Room) -> u32
     requires empty { formatter.old.held ≡ empty }
     ensures opens { OpensBoth (form_asked settings.now tables.now)
         (pattern_asked settings.now tables.now) formatter.new.held result }
@@ -71,7 +66,7 @@ pub fn open_ranges(
     locale: &[u8],
     skeleton: &[u8],
     fault: &mut Fault,
-    formatter: &mut Formatter,
+    formatter: &mut Room,
 ) -> u32
     requires empty { formatter.old.held ≡ empty }
     ensures opens { OpensRanges locale.now skeleton.now tables.now formatter.new.held

@@ -6,7 +6,7 @@ ghost use Rattle.talmuiga_c.specs.Skeletons.{AsksFor, IsCanonical, OpensForm, Op
 
 use crate::asked::text_in;
 use crate::fault::{Fault, fault_of, no_fault, not_utf8, unsupported};
-use crate::handle::Formatter;
+use crate::handle::Room;
 use crate::kept::Kept;
 use crate::output::put_text;
 use crate::status::{self, form_status};
@@ -28,7 +28,7 @@ pub struct Rejected {
 
 /// The locale of some bytes, where they are the text of one.
 #[tactic(auto, unfolding(crate::specs::Skeletons::locale_asked, decimal_lines::specs::Words::locale_named))]
-fn locale_asked(bytes: &[u8]) -> Option<DataLocale>
+pub fn locale_asked(bytes: &[u8]) -> Option<DataLocale>
     ensures { result ≡ locale_asked bytes.now }
 {
     match DataLocale::try_from_str(text_in(bytes)?) {
@@ -83,12 +83,7 @@ pub fn settings_asked<'a>(locale: &[u8], skeleton: &'a [u8]) -> Result<Settings<
 }
 
 /// Opens a formatter of the form that the settings make of the tables.
-fn open_form(
-    alloc: Global,
-    settings: &Settings<'_>,
-    tables: &[u8],
-    formatter: &mut Formatter,
-) -> u32
+fn open_form(alloc: Global, settings: &Settings<'_>, tables: &[u8], formatter: &mut Room) -> u32
     requires empty { formatter.old.held ≡ empty }
     ensures opens { OpensForm (form_asked settings.now tables.now) formatter.new.held result }
 {
@@ -109,7 +104,7 @@ pub fn open_skeleton(
     locale: &[u8],
     skeleton: &[u8],
     fault: &mut Fault,
-    formatter: &mut Formatter,
+    formatter: &mut Room,
 ) -> u32
     requires empty { formatter.old.held ≡ empty }
     ensures opens { OpensSkeleton locale.now skeleton.now tables.now formatter.new.held

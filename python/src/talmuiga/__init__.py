@@ -9,8 +9,10 @@
     'unit/kilometer .### rounding-mode-half-up unit-width-full-name'
     >>> talmuiga.Formatter.english(skeleton="currency/USD", ranges=True).format_range(3, 5)
     '$3.00 – $5.00'
+    >>> talmuiga.Message.english("{n, plural, one{# file} other{# files}}")(n=1234)
+    '1,234 files'
 
-A `Formatter` reads its tables once, when it is made, and threads may share it. `talmuiga.babel` has functions with Babel's names, and
+A `Formatter` reads its tables once, when it is made, and threads may share it; so does a `Message`. `talmuiga.babel` has functions with Babel's names, and
 `python -m talmuiga` is a command.
 """
 from __future__ import annotations
@@ -23,8 +25,9 @@ from typing import Any, Iterable, List, Literal, Optional, Sequence, SupportsFlo
 from . import _library
 from .options import skeleton_of
 
-__all__ = ["Descending", "Formatter", "NoData", "NoPattern", "NoRanges", "NotFormatted", "Number", "Refused", "SkeletonRefused",
-           "TablesRefused", "WordsRefused", "canonical_skeleton", "names_in", "skeleton_of", "tables_fault"]
+__all__ = ["ArgumentRefused", "Descending", "Formatter", "Message", "MessageRefused", "NoData", "NoPattern", "NoRanges", "NotFormatted",
+           "Number", "Refused", "SkeletonRefused", "TablesRefused", "WordsRefused", "canonical_skeleton", "names_in", "skeleton_of",
+           "tables_fault"]
 __version__ = "0.2.0"
 
 #: What is formatted: a whole number, a decimal, a text that spells one, or a float by its shortest text. Numbers of other types, as
@@ -376,3 +379,7 @@ def replace_refused(answers: List[Union[str, int]], given: Sequence[Number], mar
             if mark is None or answer == OUT_OF_MEMORY:
                 raise not_formatted(index, text_of(given[index]), answer)
             answers[index] = mark
+
+
+# messages stand on what is above
+from .messages import ArgumentRefused, Message, MessageRefused  # noqa: E402

@@ -592,6 +592,135 @@ static PyObject *canonical(PyObject *Py_UNUSED(module), PyObject *words) {
     return answer;
 }
 
+/* ---- Messages: capsules of their own. */
+
+static const char MESSAGE[] = "talmuiga message";
+
+static void close_message(PyObject *capsule) {
+    talmuiga_message_close((talmuiga_message *)PyCapsule_GetPointer(capsule, MESSAGE));
+}
+
+/* A capsule of an open message, or the status, or the fault as its byte, the number of its kind and its words. */
+static PyObject *message_opened(uint32_t status, const talmuiga_fault *found, talmuiga_message *message) {
+    if (status == TALMUIGA_MESSAGE_REFUSED) {
+        return Py_BuildValue("(nIs)", (Py_ssize_t)found->byte, (unsigned)found->kind, talmuiga_message_fault_text(found));
+    }
+    if (status) return PyLong_FromUnsignedLong(status);
+    PyObject *capsule = PyCapsule_New(message, MESSAGE, close_message);
+    if (!capsule) talmuiga_message_close(message);
+    return capsule;
+}
+
+static PyObject *open_message(PyObject *Py_UNUSED(module), PyObject *words) {
+    const char *tables, *locale, *text;
+    Py_ssize_t len, text_len;
+    talmuiga_fault found;
+    talmuiga_message *message;
+    uint32_t status;
+    if (!PyArg_ParseTuple(words, "y#sy#", &tables, &len, &locale, &text, &text_len)) return NULL;
+    Py_BEGIN_ALLOW_THREADS
+    status = talmuiga_message_open(tables, (size_t)len, locale, text, (size_t)text_len, &found, &message);
+    Py_END_ALLOW_THREADS
+    return message_opened(status, &found, message);
+}
+
+static PyObject *open_english_message(PyObject *Py_UNUSED(module), PyObject *words) {
+    const char *text;
+    Py_ssize_t text_len;
+    talmuiga_fault found;
+    talmuiga_message *message;
+    if (!PyArg_ParseTuple(words, "y#", &text, &text_len)) return NULL;
+    uint32_t status = talmuiga_message_open_english(text, (size_t)text_len, &found, &message);
+    return message_opened(status, &found, message);
+}
+
+/* Adds an item to a list that takes it; null, and the list is let go, where there is no memory. */
+static PyObject *with_item(PyObject *list, PyObject *item) {
+    if (!item || PyList_Append(list, item)) Py_CLEAR(list);
+    Py_XDECREF(item);
+    return list;
+}
+
+/* The names of a message: of each where it begins and ends in the text, in bytes, and the number of its kind. */
+static PyObject *message_names(PyObject *Py_UNUSED(module), PyObject *capsule) {
+    const talmuiga_message *message = (const talmuiga_message *)PyCapsule_GetPointer(capsule, MESSAGE);
+    talmuiga_named named;
+    PyObject *names = message ? PyList_New(0) : NULL;
+    uint32_t status = TALMUIGA_DONE;
+    for (size_t at = 0; names && (status = talmuiga_message_name(message, at, &named)) == TALMUIGA_DONE; at++) {
+        names = with_item(names, Py_BuildValue("(nnI)", (Py_ssize_t)named.name.start, (Py_ssize_t)named.name.end, (unsigned)named.kind));
+    }
+    if (names && status == TALMUIGA_OUT_OF_MEMORY) {
+        Py_DECREF(names);
+        return PyErr_NoMemory();
+    }
+    return names;
+}
+
+/* The places of a message with a form of their own: where name and skeleton begin and end in the text, in bytes. */
+static PyObject *message_places(PyObject *Py_UNUSED(module), PyObject *capsule) {
+    const talmuiga_message *message = (const talmuiga_message *)PyCapsule_GetPointer(capsule, MESSAGE);
+    talmuiga_place place;
+    PyObject *places = message ? PyList_New(0) : NULL;
+    for (size_t at = 0; places && talmuiga_message_place(message, at, &place) == TALMUIGA_DONE; at++) {
+        places = with_item(places, Py_BuildValue("(nnnn)", (Py_ssize_t)place.name.start, (Py_ssize_t)place.name.end,
+                                                 (Py_ssize_t)place.skeleton.start, (Py_ssize_t)place.skeleton.end));
+    }
+    return places;
+}
+
+/* The status of adding a value: a name, its text, the formatter of a number or None, and the skeleton of its place or None. With an
+ * exception it is that of memory. */
+static uint32_t add_value(talmuiga_arguments *arguments, PyObject *value) {
+    const char *name, *text, *skeleton;
+    Py_ssize_t text_len, skeleton_len;
+    PyObject *capsule;
+    if (!PyArg_ParseTuple(value, "sy#Oz#", &name, &text, &text_len, &capsule, &skeleton, &skeleton_len)) return TALMUIGA_OUT_OF_MEMORY;
+    if (capsule == Py_None) return talmuiga_arguments_text(arguments, name, text, (size_t)text_len);
+    const talmuiga_formatter *formatter = (const talmuiga_formatter *)PyCapsule_GetPointer(capsule, NAME);
+    if (!formatter) return TALMUIGA_OUT_OF_MEMORY;
+    return skeleton ? talmuiga_arguments_form(arguments, formatter, name, skeleton, (size_t)skeleton_len, text, (size_t)text_len)
+                    : talmuiga_arguments_number(arguments, formatter, name, text, (size_t)text_len);
+}
+
+/* The text of a message with arguments; or the status, and where the name of the argument stands in the message's text. */
+static PyObject *written(const talmuiga_message *message, const talmuiga_arguments *arguments) {
+    char room[ROOM], *output = room;
+    size_t length;
+    talmuiga_word name;
+    uint32_t status = talmuiga_message_write(message, arguments, output, ROOM, &length, &name);
+    if (status == TALMUIGA_OUTPUT_TOO_SMALL) {
+        output = (char *)PyMem_Malloc(length);
+        if (!output) return PyErr_NoMemory();
+        status = talmuiga_message_write(message, arguments, output, length, &length, &name);
+    }
+    PyObject *answer = status ? Py_BuildValue("(Inn)", (unsigned)status, (Py_ssize_t)name.start, (Py_ssize_t)name.end)
+                              : PyUnicode_DecodeUTF8(output, (Py_ssize_t)length, NULL);
+    if (output != room) PyMem_Free(output);
+    return answer;
+}
+
+/* The text of a message with the values of a list; or why it isn't written, as above; or the status, the index of a value that isn't
+ * added, and -1. */
+static PyObject *write_message(PyObject *Py_UNUSED(module), PyObject *words) {
+    PyObject *capsule, *values, *answer = NULL;
+    if (!PyArg_ParseTuple(words, "OO!", &capsule, &PyList_Type, &values)) return NULL;
+    const talmuiga_message *message = (const talmuiga_message *)PyCapsule_GetPointer(capsule, MESSAGE);
+    if (!message) return NULL;
+    talmuiga_arguments *arguments = talmuiga_arguments_open();
+    if (!arguments) return PyErr_NoMemory();
+    uint32_t status = TALMUIGA_DONE;
+    Py_ssize_t at = 0, count = PyList_Size(values);
+    while (at < count && (status = add_value(arguments, PyList_GetItem(values, at))) == TALMUIGA_DONE) at++;
+    if (status == TALMUIGA_DONE) {
+        answer = written(message, arguments);
+    } else if (!PyErr_Occurred()) {
+        answer = Py_BuildValue("(Inn)", (unsigned)status, at, (Py_ssize_t)-1);
+    }
+    talmuiga_arguments_close(arguments);
+    return answer;
+}
+
 static PyMethodDef methods[] = {
     {"open", open_by_tables, METH_VARARGS, "A formatter by tables and words, or a status."},
     {"open_skeleton", open_by_skeleton, METH_VARARGS, "A formatter by tables, a locale and a skeleton, or a status or a fault."},
@@ -610,6 +739,11 @@ static PyMethodDef methods[] = {
     {"parts", parts, METH_VARARGS, "What a text is formatted to and its parts, in characters, or a status."},
     {"many", many, METH_VARARGS, "A list of what the numbers of a list are formatted to, or of statuses, and whether one is in it."},
     {"raw", raw, METH_VARARGS, "The same of the numbers of some bytes."},
+    {"open_message", open_message, METH_VARARGS, "A message by tables, a locale and a text, or a status or a fault."},
+    {"open_english_message", open_english_message, METH_VARARGS, "A message in English by a text, or a status or a fault."},
+    {"names", message_names, METH_O, "The names of a message, where they stand, and their kinds."},
+    {"places", message_places, METH_O, "The places of a message with a form of their own, where names and skeletons stand."},
+    {"write", write_message, METH_VARARGS, "What a message writes with values, or a status and which name or which value."},
     {NULL, NULL, 0, NULL},
 };
 

@@ -10,15 +10,15 @@ use types.Kit.{use0}
 use types.Run.{and_then, no_more}
 use denote.Memory.{cell_at}
 use Rattle.talmuiga_c.specs.Handle.{away, empty, room_owns}
-use Rattle.talmuiga_c.specs.contracts.handle.Formatter.lend as f
-use Rattle.talmuiga_c.proofs.handle.Formatter.lend.Statement.{statement}
-use Rattle.talmuiga_c.proofs.handle.Formatter.lend.Code as code
-use Rattle.talmuiga_c.specs.contracts.handle.Formatter.{the_row as R}
-use Rattle.talmuiga_c.proofs.handle.Formatter.TheLaws.{lowers}
+use Rattle.talmuiga_c.specs.contracts.handle.Room.lend as f
+use Rattle.talmuiga_c.proofs.handle.Room.lend.Statement.{statement}
+use Rattle.talmuiga_c.proofs.handle.Room.lend.Code as code
+use Rattle.talmuiga_c.specs.contracts.handle.Room.{the_row as R}
+use Rattle.talmuiga_c.proofs.handle.Room.TheLaws.{lowers}
 use Rattle.std.specs.Prelude.{Option}
 use Rattle.talmuiga_c.specs.contracts.handle.Lent.{the_row as Lent}
-use Rattle.talmuiga_c.specs.declared.kept.Kept.{Kept}
-use Rattle.talmuiga_c.specs.contracts.kept.Kept.{the_row as Held}
+use Rattle.talmuiga_c.specs.declared.held.Held.{Held}
+use Rattle.talmuiga_c.specs.contracts.held.Held.{the_row as HeldRow}
 
 abbrev stayed : Stays f.ended.signature.params f.ended.kept
 stayed = (stay_ref (0 ∷ []) tt (plain (λ _. R)), tt)
@@ -39,8 +39,8 @@ lend_spec 𝓤 𝓛 𝓜 𝓡 wired =
     keep ! (0 ∷ 2 ∷ []) $
     enter ! _ _ _ _ _ $ alloc_all ! (λ l. pass_all ! refl ((tt, tt), tt) $ fsplit3 ! $ move ! (1 ∷ 2 ∷ 3 ∷ []) $ opens ! tt R b o (λ us.
     move ! (1 ∷ []) $ peeks ! R _ (shows 𝓛 R) h us (λ is. fsplit ! $ move ! (1 ∷ []) $
-    rewrite ! 0 (λ (x : Option (Option Kept)). ‵ (room_owns h.at x)) found.1 refl $
-    in_a_block ! h.at (λ p. lies_at Held full_share p m) (id⊢ 𝓤 _) (λ b' o' e.
+    rewrite ! 0 (λ (x : Option (Option Held)). ‵ (room_owns h.at x)) found.1 refl $
+    in_a_block ! h.at (λ p. lies_at HeldRow full_share p m) (id⊢ 𝓤 _) (λ b' o' e.
     let word = lowers.val_is h us is ∙ ap (λ (p : Ptr). lowers.lowered (record h { at = p }) ∷ []) e in
     let Cell = λ (ws : List Val). ‵ (cell_at full_share R.mir ws b o) in
     rewrite ! 2 Cell word refl $
@@ -48,11 +48,11 @@ lend_spec 𝓤 𝓛 𝓜 𝓡 wired =
     sets ! (of_opd ! (load ! (through ! refl (fld ! refl (stop !))) (look_in ! 2 (sub ! 0 refl (whole !))))) refl (tt, tt) $
     sets ! (of_opd ! (get ! refl)) refl (tt, tt) $
     sets ! (agg ! (and_then ! (get ! refl) (no_more !))) refl (tt, (tt, tt)) $
-    use1 𝓛 (‵ (Lent.own_val (record { at = block_ptr b' o'; kept = m }) (pointer b' o' ∷ []))) (lent-made 𝓛 b' o' m) $
+    use1 𝓛 (‵ (Lent.own_val (record { at = block_ptr b' o'; held = m }) (pointer b' o' ∷ []))) (lent-made 𝓛 b' o' m) $
     rewrite ! 2 Cell (sym word) refl $ use0 𝓛 (‵ ftrue) (id⊢ 𝓤 _) $
     move ! (2 ∷ 0 ∷ []) $ fjoin ! $ move ! (2 ∷ 0 ∷ 3 ∷ 4 ∷ 5 ∷ []) $ closes ! tt R (record h { held = away }) us b o $
     -- [two parts of self; the token; what is lent; the place of self]
     returns ! (look_at ! 0 refl) $ free_all ! refl $ move ! (4 ∷ []) $
-    suffices ! _ (ends_at 𝓛 f.ended stayed c y (pointer b' o') (record { at = block_ptr b' o'; kept = m }) (record h { held = away }, tt) (tt, tt)) $
+    suffices ! _ (ends_at 𝓛 f.ended stayed c y (pointer b' o') (record { at = block_ptr b' o'; held = m }) (record h { held = away }, tt) (tt, tt)) $
     says ! (refl, (sym e, found.1)) $
     group ! 3 $ nothing ! $ move ! (1 ∷ 0 ∷ []) $ join ! $ nothing ! $ move ! (2 ∷ 0 ∷ []) $ join ! $ frame ! $ frame ! $ done !))))))

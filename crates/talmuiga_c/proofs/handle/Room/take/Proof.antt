@@ -1,4 +1,4 @@
--- What a formatter holds leaves its place, which is room again.
+-- What a room holds leaves its place, which is room again.
 use Rattle.talmuiga_c.proofs.Steps.{◌≡◌, List, [], ◌∷◌, refl, sym, ap, ◌∙◌, proved, full_share, id⊢, ftrue, flft, named, Val}
 use Rattle.talmuiga_c.proofs.Steps.{fact, tables, ‵, raw, ◌⊛◌, at_ret, ◌$◌, ◌∵◌, !, qed, done, move, keep, use1, split, join}
 use Rattle.talmuiga_c.proofs.Steps.{fsplit, fsplit3, fjoin, rewrite, suffices, frame, group, enter, of_opd, load, look, stop, fld, first, blocks}
@@ -12,14 +12,14 @@ use Rattle.std.proofs.VecSteps.Shapes.{after}
 use denote.Memory.{cell_at}
 use denote.RawPtr.{room_at}
 use Rattle.talmuiga_c.specs.Handle.{away, empty, room_owns}
-use Rattle.talmuiga_c.specs.contracts.handle.Formatter.take as f
-use Rattle.talmuiga_c.proofs.handle.Formatter.take.Statement.{statement}
-use Rattle.talmuiga_c.proofs.handle.Formatter.take.Code as code
-use Rattle.talmuiga_c.specs.contracts.handle.Formatter.{the_row as R}
-use Rattle.talmuiga_c.proofs.handle.Formatter.TheLaws.{lowers}
+use Rattle.talmuiga_c.specs.contracts.handle.Room.take as f
+use Rattle.talmuiga_c.proofs.handle.Room.take.Statement.{statement}
+use Rattle.talmuiga_c.proofs.handle.Room.take.Code as code
+use Rattle.talmuiga_c.specs.contracts.handle.Room.{the_row as R}
+use Rattle.talmuiga_c.proofs.handle.Room.TheLaws.{lowers}
 use Rattle.std.specs.Prelude.{Option}
-use Rattle.talmuiga_c.specs.declared.kept.Kept.{Kept}
-use Rattle.talmuiga_c.specs.contracts.kept.Kept.{the_row as Held}
+use Rattle.talmuiga_c.specs.declared.held.Held.{Held}
+use Rattle.talmuiga_c.specs.contracts.held.Held.{the_row as HeldRow}
 
 abbrev stayed : Stays f.ended.signature.params f.ended.kept
 stayed = (stay_ref (0 ∷ []) tt (plain (λ _. R)), tt)
@@ -40,8 +40,8 @@ take_spec 𝓤 𝓛 𝓜 𝓡 wired =
     keep ! (0 ∷ 2 ∷ []) $
     enter ! _ _ _ _ _ $ alloc_all ! (λ l. pass_all ! refl ((tt, tt), tt) $ fsplit3 ! $ move ! (1 ∷ 2 ∷ 3 ∷ []) $ opens ! tt R b o (λ us.
     move ! (1 ∷ []) $ peeks ! R _ (shows 𝓛 R) h us (λ is. fsplit ! $ move ! (1 ∷ []) $
-    rewrite ! 0 (λ (x : Option (Option Kept)). ‵ (room_owns h.at x)) found.1 refl $
-    in_a_block ! h.at (λ p. lies_at Held full_share p m) (id⊢ 𝓤 _) (λ b' o' e.
+    rewrite ! 0 (λ (x : Option (Option Held)). ‵ (room_owns h.at x)) found.1 refl $
+    in_a_block ! h.at (λ p. lies_at HeldRow full_share p m) (id⊢ 𝓤 _) (λ b' o' e.
     let word = lowers.val_is h us is ∙ ap (λ (p : Ptr). lowers.lowered (record h { at = p }) ∷ []) e in
     let Cell = λ (ws : List Val). ‵ (cell_at full_share R.mir ws b o) in
     rewrite ! 2 Cell word refl $
@@ -53,8 +53,8 @@ take_spec 𝓤 𝓛 𝓜 𝓡 wired =
     sets_last ! (of_opd ! (load ! (through ! refl (stop !)) (look ! 0 refl))) refl typed $
     exec ! 𝓣.C 𝓣.Λ (env code.Mir.locals l) (after 1 (code.function).body) (at_ret _ (W.post y)) $
     sets ! (of_opd ! (get ! refl)) refl typed $
-    use1 𝓛 (‵ (room_at Held (block_ptr b' o'))) (𝓛.laws.at_room layout b' o' v) $
-    rewrite ! 0 (λ (p : Ptr). ‵ (room_at Held p)) (sym e) refl $ rewrite ! 3 Cell (sym word) refl $
+    use1 𝓛 (‵ (room_at HeldRow (block_ptr b' o'))) (𝓛.laws.at_room layout b' o' v) $
+    rewrite ! 0 (λ (p : Ptr). ‵ (room_at HeldRow p)) (sym e) refl $ rewrite ! 3 Cell (sym word) refl $
     move ! (2 ∷ 0 ∷ []) $ fjoin ! $ move ! (2 ∷ 0 ∷ 3 ∷ 4 ∷ 5 ∷ []) $ closes ! tt R (record h { held = empty }) us b o $
     -- [two parts of self; the token; what it owns; the place of self]
     returns ! (look_at ! 0 refl) $ free_all ! refl $ move ! (4 ∷ []) $

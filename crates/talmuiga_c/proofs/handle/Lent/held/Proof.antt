@@ -20,12 +20,12 @@ use denote.Struct.Owning.{shape}
 use denote.Struct.Lending.{in_block_says, lent_at, lent_out}
 use denote.Triple.Walked.{stay_dropped, Goes-dropped}
 use denote.Signature.{shr_ref_to}
-use Rattle.talmuiga_c.specs.contracts.handle.Lent.kept as f
-use Rattle.talmuiga_c.proofs.handle.Lent.kept.Statement.{statement}
-use Rattle.talmuiga_c.proofs.handle.Lent.kept.Code as code
+use Rattle.talmuiga_c.specs.contracts.handle.Lent.held as f
+use Rattle.talmuiga_c.proofs.handle.Lent.held.Statement.{statement}
+use Rattle.talmuiga_c.proofs.handle.Lent.held.Code as code
 use Rattle.talmuiga_c.specs.contracts.handle.Lent as lent
-use Rattle.talmuiga_c.specs.declared.kept.Kept.{Kept}
-use Rattle.talmuiga_c.specs.contracts.kept.Kept.{the_row as Kept-row}
+use Rattle.talmuiga_c.specs.declared.held.Held.{Held}
+use Rattle.talmuiga_c.specs.contracts.held.Held.{the_row as Held-row}
 
 abbrev stayed : Stays f.ended.signature.params f.ended.kept
 stayed = (stay_dropped (shr_ref_to (0 ∷ []) tt (plain (λ _. lent.the_row))) yes, tt)
@@ -43,21 +43,21 @@ module _ {M : Type 1} {𝓤 : Ura M} (𝓛 : Logic 𝓤) (κ : Lft) (p : Ptr) (b
       use1 𝓛 (‵ (shared_of (Struct (shape lent.the_type)) (p, tt) b o κ)) (id⊢ 𝓤 _) $ fsplit ! $ fsplit ! $
       use1 𝓛 (‵ (hidden_shr RawPtr κ p b (o + 0))) (id⊢ 𝓤 _) $ keep ! (0 ∷ 3 ∷ []) $ done !
 
--- the contract of `kept` holds
-pub kept_spec : {M : Type 1} → statement M
-kept_spec 𝓤 𝓛 𝓜 𝓡 wired =
+-- the contract of `held` holds
+pub held_spec : {M : Type 1} → statement M
+held_spec 𝓤 𝓛 𝓜 𝓡 wired =
     let c = f.clauses 𝓛 𝓜.mem 𝓡.returns in let W = walk_of 𝓛 f.ended stayed c in let 𝓣 = tables 𝓤 𝓛.H 𝓜 𝓡 𝓡.env in
     proved 𝓛 f.ended stayed c 𝓜 𝓡 (Goes-dropped 𝓛 1 (shr_ref_to (0 ∷ []) tt (plain (λ _. lent.the_row))) yes (λ κs x f. refl), tt)
     f.Key.name code.function (code.unfolded 𝓤 𝓛.H 𝓜 𝓡 wired)
     (λ κs. (shr_vals, tt)) (λ κs. (shr_Tells (named 0) κs.0 lent.the_row, tt)) (λ κs qs bounds a _ are.
     let b = a.0.ref_ptr.0 in let o = a.0.ref_ptr.1 in let l = a.0.now in let vs = shr_vals a.0 in let κ = κs.0 in
     let 𝓣 = tables 𝓤 𝓛.H 𝓜 𝓡 𝓡.env in
-    let lent-kept : Bor Kept = record { ref_ptr = (block_of l.at, count_of l.at); now = l.kept } in
+    let lent-held : Bor Held = record { ref_ptr = (block_of l.at, count_of l.at); now = l.held } in
     let y : W.Ghost = ((κs, qs, bounds, a, (vs, tt)), tt) in
     qed 𝓛 (((‵ (flft κ qs.0) ⊛ ‵ ftrue) ⊛ ‵ ((ShrRef (named 0) κ lent.the_row).own_val a.0 vs) ⊛ ‵ ftrue) ∷ ‵ ftrue ∷ []) ∵
     split ! $ split ! $ move ! (2 ∷ []) $ split ! $ fsplit ! $ move ! (1 ∷ []) $
     use1 𝓛 (‵ (hidden_shr (Struct (shape lent.the_type)) κ (l.at, tt) b o)
-    ⊛ ‵ (lent_at Kept-row l.at l.kept κ)) (lent_out 𝓛 lent.struct lent.the_codes lent.the_heap lent.the_lent κ l b o) $
+    ⊛ ‵ (lent_at Held-row l.at l.held κ)) (lent_out 𝓛 lent.struct lent.the_codes lent.the_heap lent.the_lent κ l b o) $
     split ! $ move ! (1 ∷ []) $ fsplit ! $ use1 𝓛 (raw (fact 𝓤 (InBlock l.at))) (in_block_says 𝓛 l.at) $ heard ! (InBlock l.at) (λ inb.
     -- [what a reference to it holds; the pointer's; an equation; nothing; the token]
     keep ! (1 ∷ 4 ∷ 0 ∷ []) $ enter ! _ _ _ _ _ $ alloc_all ! (λ at. pass_all ! refl ((tt, tt), tt) $
@@ -68,7 +68,7 @@ kept_spec 𝓤 𝓛 𝓜 𝓡 wired =
     sets ! (of_opd ! (get ! refl)) refl (tt, tt) $
     pointer_out ! tt l.at inb b (o + 0) $ returns ! (look_at ! 0 refl) $ free_all ! refl $
     -- [the token; the pointer's; what a reference to it holds]
-    suffices ! _ (ends_at 𝓛 f.ended stayed c y (vptr (block_of l.at) (count_of l.at)) lent-kept (tt, tt) (tt, tt)) $ says ! refl $
-    move ! (2 ∷ 0 ∷ []) $ use1 𝓛 (‵ (hidden_shr Kept-row κ l.kept (block_of l.at) (count_of l.at))) (id⊢ 𝓤 _) $
-    feq_i ! _ (shr_vals lent-kept) _ refl $ fjoin ! $ nothing ! $ nothing ! $ join ! $ nothing ! $ move ! (3 ∷ 0 ∷ []) $ join ! $
+    suffices ! _ (ends_at 𝓛 f.ended stayed c y (vptr (block_of l.at) (count_of l.at)) lent-held (tt, tt) (tt, tt)) $ says ! refl $
+    move ! (2 ∷ 0 ∷ []) $ use1 𝓛 (‵ (hidden_shr Held-row κ l.held (block_of l.at) (count_of l.at))) (id⊢ 𝓤 _) $
+    feq_i ! _ (shr_vals lent-held) _ refl $ fjoin ! $ nothing ! $ nothing ! $ join ! $ nothing ! $ move ! (3 ∷ 0 ∷ []) $ join ! $
     frame ! $ frame ! $ keep ! (0 ∷ []) $ done !))))

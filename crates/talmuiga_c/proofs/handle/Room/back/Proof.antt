@@ -7,11 +7,11 @@ use Rattle.talmuiga_c.proofs.Steps.{yes}
 use Rattle.talmuiga_c.proofs.Owned.{told-nothing}
 use denote.Exit.{rest}
 use denote.Param.Mute.{Mute-flat}
-use Rattle.talmuiga_c.specs.Handle.{away, holding, lent_owns}
-use Rattle.talmuiga_c.specs.contracts.handle.Formatter.back as f
-use Rattle.talmuiga_c.proofs.handle.Formatter.back.Statement.{statement}
-use Rattle.talmuiga_c.proofs.handle.Formatter.back.Code as code
-use Rattle.talmuiga_c.specs.contracts.handle.Formatter.{the_row as R}
+use Rattle.talmuiga_c.specs.Handle.{away, contains, lent_owns}
+use Rattle.talmuiga_c.specs.contracts.handle.Room.back as f
+use Rattle.talmuiga_c.proofs.handle.Room.back.Statement.{statement}
+use Rattle.talmuiga_c.proofs.handle.Room.back.Code as code
+use Rattle.talmuiga_c.specs.contracts.handle.Room.{the_row as R}
 use Rattle.talmuiga_c.specs.contracts.handle.Lent.{the_row as Lent}
 use Rattle.talmuiga_c.proofs.handle.Lent.TheLaws.{lowers as lent-lowers, the_field_loose}
 
@@ -36,13 +36,13 @@ back_spec 𝓤 𝓛 𝓜 𝓡 wired =
     )) (λ κs qs bounds a _ are.
     let b = a.0.ref_ptr.0 in let o = a.0.ref_ptr.1 in let h = a.0.now in let vs = mut_vals a.0 in
     let l = a.1.0 in let ls = lent-lowers.lowered l ∷ [] in let typed = ((the_field_loose.lawful 𝓛).typed l ls are.1.0).0 in
-    let held = record h { held = holding l.kept } in
+    let held = record h { held = contains l.held } in
     let y : W.Ghost = ((κs, qs, bounds, a, (vs, (ls, tt))), tt) in
     qed 𝓛 (((‵ (flft κs.0 qs.0) ⊛ ‵ ftrue) ⊛ ‵ ((MutRef (named 0) κs.0 R).own_val a.0 vs) ⊛ ‵ (Lent.own_val l ls)
     ⊛ ‵ ftrue) ∷ raw (fact 𝓤 ((h.held ≡ away) × (l.at ≡ h.at))) ∷ []) ∵
     split ! $ split ! $ move ! (2 ∷ []) $ split ! $ move ! (1 ∷ []) $ split ! $ move ! (5 ∷ []) $ heard ! ((h.held ≡ away) × (l.at ≡ h.at)) (λ is.
     -- [what is lent; nothing; the reference; the token; nothing]
-    fsplit ! $ drop ! $ rewrite ! 0 (λ (p : Ptr). ‵ (lent_owns p l.kept)) is.1 refl $ keep ! (2 ∷ 3 ∷ 0 ∷ []) $
+    fsplit ! $ drop ! $ rewrite ! 0 (λ (p : Ptr). ‵ (lent_owns p l.held)) is.1 refl $ keep ! (2 ∷ 3 ∷ 0 ∷ []) $
     enter ! _ _ _ _ _ $ alloc_all ! (λ at. pass_all ! refl ((tt, tt), (typed, tt)) $ fsplit3 ! $ move ! (1 ∷ 2 ∷ 3 ∷ []) $ opens ! tt R b o (λ us.
     -- [the cell; what self owns; the open borrow, in three entries; the place of self; what is lent]
     move ! (1 ∷ []) $ fsplit ! $ move ! (1 ∷ []) $ drop ! $ move ! (0 ∷ 6 ∷ []) $ fjoin ! $ move ! (1 ∷ 0 ∷ []) $ closes ! tt R held us b o $

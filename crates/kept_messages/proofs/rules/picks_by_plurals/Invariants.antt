@@ -1,0 +1,7 @@
+use Rattle.std.proofs.Common.{◌≡◌, drop}
+use Rattle.kept_messages.specs.Picking.{picks_by_plurals}
+use Rattle.kept_messages.proofs.rules.picks_by_plurals.Given as goal
+
+-- what is left has the answer
+abbrev pub invariant-loop-piece : goal.invariant-loop-piece
+invariant-loop-piece l = picks_by_plurals (drop l.piece-index l.pieces) ≡ picks_by_plurals l.pieces
