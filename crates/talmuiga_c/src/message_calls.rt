@@ -56,7 +56,7 @@ pub extern "C" fn talmuiga_message_open_english_sized(
 }
 
 /// Sets where the place with a form of its own at an index has its name and its skeleton.
-// promise: Places with forms are told in the order of the text.
+// promise: Places with forms are given in the order of the text.
 // mutations: message_place_behind_the_asked_one
 #[unsafe(no_mangle)]
 pub extern "C" fn talmuiga_message_place_sized(
@@ -76,7 +76,7 @@ pub extern "C" fn talmuiga_message_place_sized(
 }
 
 /// Sets where the name at an index stands first, and what is asked of its argument.
-// promise: Names are told with their kinds, each once.
+// promise: Names are given with their kinds, each once.
 // mutations: message_name_of_another_kind
 #[unsafe(no_mangle)]
 pub extern "C" fn talmuiga_message_name_sized(
