@@ -151,27 +151,7 @@ lines 0 'x\n5\n' 'x\n5\n' 'locnum: line 1, field 1: x: not a decimal' --invalid 
 lines 0 'x\n5\n' 'x\n5\n' '' --invalid ignore
 lines 2 '\n' '' 'locnum: line 1, field 1: (empty): not a decimal'
 
-# words that are ranges
-writes '3\xe2\x80\x935\n-3 \xe2\x80\x93 5\n7\n' 3..5 -3..5 7
-writes '$3.00 \xe2\x80\x93 $5.00\n' --currency USD 3..5
-writes '3% \xe2\x80\x93 5%\n' --percent 0.03..0.05
-writes '1K \xe2\x80\x93 2K\n1.2M\n' --style short 1000..2000 1200000..1210000
-writes '   3\xe2\x80\x935\n' --padding 6 3..5
-writes '3\xe2\x80\x935   \n' --padding -6 3..5
-writes '1 \xe2\x80\x93 2 thousand\n1 thousand \xe2\x80\x93 2 thousand\n' --style long 1..2000 1000..2000
-judge_range() { # judge_range STATUS OUTPUT ERROR WORD..
-    local wanted=$1 output=$2 error=$3
-    shift 3
-    ran "$program" "$@" </dev/null
-    judge_run "$*" "$wanted" "$output" "$error"
-}
-judge_range 2 '' 'locnum: word 1: 5..3: the start is above the end' 5..3 7
-judge_range 2 '1\n' 'locnum: word 2: x..3: the start: not a decimal' 1 x..3
-judge_range 2 '3..y\n1\n' 'locnum: word 1: 3..y: the end: not a decimal' --invalid fail 3..y 1
-judge_range 0 '5..3\n' '' --invalid ignore 5..3
-judge_range 0 '1.00\xe2\x80\x932.00 US dollars\n' '' --currency USD --width name 1..2
-judge_range 2 '' 'locnum: word 1: 1..2: no ranges of these numbers with a unit or a name' --style long --currency USD --width name 1..2
-judge_range 2 '' 'locnum: word 1: 1..: not a decimal' 1..
+source "$(dirname "$0")/locnum_ranges.sh"
 
 ran "$program" ''
 judge_run 'an empty word' 2 '' 'locnum: word 1: (empty): not a decimal'

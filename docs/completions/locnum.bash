@@ -20,8 +20,8 @@ _locnum() {
     local word=${COMP_WORDS[at]} before=${COMP_WORDS[at - 1]} place
     local options='--tables --locale --system --list --style --currency --accounting --cash --unit --width --percent --permille
         --fraction --significant --increment --integer --scale --round --grouping --sign --skeleton --message
-        --messages --id --delimiter --csv --field --header --zero-terminated --padding --invalid --explain --help
-        --version -t -l -d -z -h -V'
+        --messages --id --delimiter --csv --field --range --header --zero-terminated --padding --invalid --explain
+        --help --version -t -l -d -z -h -V'
     COMPREPLY=()
     # --style=short is three words, the sign one of them
     if [ "$word" = = ]; then
@@ -31,7 +31,7 @@ _locnum() {
         before=${COMP_WORDS[at - 2]}=
     fi
     case $before in
-    --tables= | --locale= | --system= | --list= | --style= | --currency= | --unit= | --width= | --fraction= | --significant= | --increment= | --integer= | --scale= | --round= | --sign= | --skeleton= | --message= | --messages= | --id= | --delimiter= | --field= | --padding= | --invalid=) before=${before%=} ;;
+    --tables= | --locale= | --system= | --list= | --style= | --currency= | --unit= | --width= | --fraction= | --significant= | --increment= | --integer= | --scale= | --round= | --sign= | --skeleton= | --message= | --messages= | --id= | --delimiter= | --field= | --range= | --padding= | --invalid=) before=${before%=} ;;
     esac
     # behind -- all are numbers
     for ((place = 1; place < at; place++)); do
@@ -53,7 +53,7 @@ _locnum() {
     --grouping=) mapfile -t COMPREPLY < <(compgen -W 'auto never always min2' -- "$word") ;;
     --sign) mapfile -t COMPREPLY < <(compgen -W 'auto always never except-zero negative' -- "$word") ;;
     --invalid) mapfile -t COMPREPLY < <(compgen -W 'abort fail warn ignore' -- "$word") ;;
-    --fraction | --significant | --increment | --integer | --scale | --skeleton | --message | --id | -d | --delimiter | --field | --padding | --header=) ;;
+    --fraction | --significant | --increment | --integer | --scale | --skeleton | --message | --id | -d | --delimiter | --field | --range | --padding | --header=) ;;
     *) [[ $word != -* || $before = *= ]] || mapfile -t COMPREPLY < <(compgen -W "$options" -- "$word") ;;
     esac
 }

@@ -118,10 +118,15 @@ fn given_among<'a>(
     Ok(given)
 }
 
-/// The options that are given, with their texts.
+/// The options that are given, with their texts. The fields of `--range` are given as those of
+/// `--field`, too.
 pub(crate) fn given<'a>(
     alloc: Global,
     matches: &ArgMatches<'a>,
 ) -> Result<Vec<(&'a str, &'a str)>, AllocError> {
-    given_among(alloc, &OPTIONS, matches)
+    let mut given = given_among(alloc, &OPTIONS, matches)?;
+    if let Some(text) = matches.get_str("range") {
+        given.push(("field", text))?;
+    }
+    Ok(given)
 }

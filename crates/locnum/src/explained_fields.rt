@@ -71,36 +71,56 @@ pub(crate) fn bytes_behind(record: &[u8], start: usize, is_first: bool) -> &[u8]
     }
 }
 
-/// Reads a record, perhaps the first one: a line, and further ones while quotes of CSV are open. The
-/// result is whether there was one; it has no byte that ends lines behind it.
+/// What was read of a record.
+#[derive(Clone, Copy, PartialEq, Eq)]
+pub(crate) enum ReadRecord {
+    /// Nothing, or a byte order mark alone: the input has ended.
+    Nothing,
+    /// All of it, and the byte that ends lines behind it.
+    Ended,
+    /// All of it; the input ends in it.
+    Unended,
+}
+
+/// What was read of a record at the end of an input, by its bytes.
+fn last_read(record: &[u8]) -> ReadRecord {
+    if record.is_empty() {
+        ReadRecord::Nothing
+    } else {
+        ReadRecord::Unended
+    }
+}
+
+/// Reads a record, perhaps the first one: a line, and further ones while quotes of CSV are open. It has
+/// no byte that ends lines behind it.
 pub(crate) fn read_record(
     streams: &mut Streams,
     reader: &mut BufReader<Stdin>,
     lines: &LineSettings,
     is_first: bool,
     record: &mut Vec<u8>,
-) -> Result<bool, RunError> {
+) -> Result<ReadRecord, RunError> {
     record.clear();
     let mut state = RecordState::new();
     for _ in 0..u64::MAX {
         let start = record.len();
         if read_line(streams, reader, lines.end, record)? == 0 {
-            return Ok(!record.is_empty());
+            return Ok(last_read(record));
         }
         if record.last() != Some(&lines.end) {
-            return Ok(!bytes_behind(record, 0, is_first).is_empty());
+            return Ok(last_read(bytes_behind(record, 0, is_first)));
         }
         record.pop();
         state.pass(lines, bytes_behind(record, start, is_first));
         if !state.is_open() {
-            return Ok(true);
+            return Ok(ReadRecord::Ended);
         }
         let Ok(()) = record.push(lines.end) else {
             return Err(RunError::OutOfMemory);
         };
         state.pass(lines, &[lines.end]);
     }
-    Ok(true)
+    Ok(ReadRecord::Unended)
 }
 
 /// Explains the chosen fields of standard input, in front of which a byte order mark may stand.
@@ -116,7 +136,8 @@ fn explain_input(
     let mut report = nothing(rt.alloc());
     for index in 0..u64::MAX {
         let is_first = index == 0;
-        if !read_record(streams, &mut reader, lines, is_first, &mut record)? {
+        let read = read_record(streams, &mut reader, lines, is_first, &mut record)?;
+        if read == ReadRecord::Nothing {
             return Ok(report);
         }
         let text = bytes_behind(&record, 0, is_first);

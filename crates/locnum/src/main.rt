@@ -25,6 +25,9 @@ mod mistakes;
 mod near;
 mod options;
 mod positions;
+mod range_given;
+mod range_lines;
+mod range_notes;
 mod ranges;
 mod read_tables;
 mod running;
@@ -42,6 +45,8 @@ use message_given::source_given;
 use message_run::MessageRun;
 use mistakes::status_of_words;
 use number_forms::{Form, Settings, StartError};
+use range_given::{RangeColumns, RangeFault, columns_given, failure_of_options, judge_range};
+use range_lines::run_range_fields;
 use ranges::{has_range, note_of_no_ranges, run_ranges};
 use read_tables::read_tables;
 use running::run_formed;
@@ -63,6 +68,7 @@ enum Failure {
     Words,
     Names,
     Options(OptionFault),
+    Range(RangeFault),
     /// It is reported.
     Reported,
 }
@@ -139,6 +145,23 @@ fn in_locale<'a>(options: Options<'a>, locale: Option<DataLocale>) -> Options<'a
     }
 }
 
+/// The status of ranges that were run; or why they weren't, which is reported.
+fn status_of_ranges(
+    rt: &HostRuntime,
+    settings: &Settings<'_>,
+    file: TablesFile<'_>,
+    ran: Result<u8, StartError>,
+) -> Result<u8, Failure> {
+    match ran {
+        Ok(status) => Ok(status),
+        Err(StartError::NoData) => {
+            let note = note_of_no_ranges(rt.alloc(), file, settings)?;
+            Err(put_note(rt, &note))
+        }
+        Err(error) => Err(failure_of(rt, START, settings, file, error)),
+    }
+}
+
 /// Runs words some of which are ranges; the status.
 fn run_ranges_by(
     rt: &HostRuntime,
@@ -148,14 +171,21 @@ fn run_ranges_by(
     words: &[&str],
 ) -> Result<u8, Failure> {
     let settings = options.settings;
-    match run_ranges(rt, &settings, options.lines, file, form, words) {
-        Ok(status) => Ok(status),
-        Err(StartError::NoData) => {
-            let note = note_of_no_ranges(rt.alloc(), file, &settings)?;
-            Err(put_note(rt, &note))
-        }
-        Err(error) => Err(failure_of(rt, START, &settings, file, error)),
-    }
+    let ran = run_ranges(rt, &settings, options.lines, file, form, words);
+    status_of_ranges(rt, &settings, file, ran)
+}
+
+/// Runs ranges of two fields; the status.
+fn run_fields_by(
+    rt: &HostRuntime,
+    options: &Options<'_>,
+    columns: RangeColumns,
+    file: TablesFile<'_>,
+    form: &Form,
+) -> Result<u8, Failure> {
+    let settings = &options.settings;
+    let ran = run_range_fields(rt, settings, &options.lines, columns, file, form);
+    status_of_ranges(rt, settings, file, ran)
 }
 
 /// Runs what is asked for by the tables; the status.
@@ -163,6 +193,7 @@ fn run_by_tables(
     rt: &HostRuntime,
     matches: &ArgMatches<'_>,
     options: Options<'_>,
+    columns: Option<RangeColumns>,
     file: TablesFile<'_>,
 ) -> Result<u8, Failure> {
     let options = in_locale(options, only_locale(rt, matches, file));
@@ -172,6 +203,9 @@ fn run_by_tables(
     };
     if let Some(note) = note_of_system(rt.alloc(), START, file, &options.settings)? {
         return Err(put_note(rt, &note));
+    }
+    if let Some(columns) = columns {
+        return run_fields_by(rt, &options, columns, file, &form);
     }
     let numbers = numbers_given(rt.alloc(), matches)?;
     if let Some(source) = source_given(rt, matches)? {
@@ -219,6 +253,7 @@ fn run_options(
     options: Options<'_>,
     tables: Option<&str>,
 ) -> Result<u8, Failure> {
+    let columns = columns_given(matches, &options.lines)?;
     if !options.lines.names.is_empty() && matches.contains_id("number") {
         return Err(Failure::Names);
     }
@@ -238,7 +273,7 @@ fn run_options(
                 matches.contains_id("locale"),
             )
         }
-        None => run_by_tables(rt, matches, options, file),
+        None => run_by_tables(rt, matches, options, columns, file),
     }
 }
 
@@ -263,6 +298,7 @@ fn run_asked(rt: &HostRuntime, matches: &ArgMatches<'_>) -> Result<u8, Failure> 
         numeric: numeric.as_deref(),
         language: language.as_deref(),
     };
+    judge_range(matches)?;
     let options = given(rt.alloc(), matches)?;
     let given = Given {
         options: &options,
@@ -273,7 +309,7 @@ fn run_asked(rt: &HostRuntime, matches: &ArgMatches<'_>) -> Result<u8, Failure> 
             let tables = tables_of_environment(rt);
             run_options(rt, matches, options, tables.as_deref())
         }
-        Err(fault) => Err(Failure::Options(fault)),
+        Err(fault) => Err(failure_of_options(matches, fault)),
     }
 }
 
@@ -286,6 +322,7 @@ fn report(rt: &HostRuntime, failure: Failure) {
             rt.eprintln("locnum: --field: names are those of a header, and arguments have none")
         }
         Failure::Options(fault) => eprintln!(rt; "locnum: {fault}"),
+        Failure::Range(fault) => eprintln!(rt; "locnum: {fault}"),
         Failure::Reported => Ok(()),
     };
 }

@@ -1,7 +1,7 @@
 //! A message for each number among the arguments or in the chosen fields of lines.
 
 use crate::explained::{put, read_line, reader, reported};
-use crate::explained_fields::{bytes_behind, read_record};
+use crate::explained_fields::{ReadRecord, bytes_behind, read_record};
 use crate::message_arguments::{Fields, NoNumber, arguments, numbers_shown};
 use crate::message_wanted::WantedArgument;
 use crate::streams::Streams;
@@ -231,7 +231,8 @@ impl Writer<'_> {
         let mut report = nothing(rt.alloc());
         for index in 0..u64::MAX {
             let is_first = index == 0;
-            if !read_record(streams, &mut reader, lines, is_first, &mut record)? {
+            let read = read_record(streams, &mut reader, lines, is_first, &mut record)?;
+            if read == ReadRecord::Nothing {
                 return Ok(report);
             }
             let text = bytes_behind(&record, 0, is_first);

@@ -42,7 +42,7 @@ const LINES: &str = "Lines";
 pub(crate) const PROGRAM: &str = "Program";
 
 /// The options, in the order of `--help`.
-pub(crate) const OPTIONS: [OptionEntry; 32] = [
+pub(crate) const OPTIONS: [OptionEntry; 33] = [
     OptionEntry {
         heading: LOCALE,
         name: "tables",
@@ -231,6 +231,13 @@ pub(crate) const OPTIONS: [OptionEntry; 32] = [
         letter: None,
         takes: Takes::Text("LIST"),
         help: "the numbers: 2, 2-4, 1,3- or -, or names of --header",
+    },
+    OptionEntry {
+        heading: LINES,
+        name: "range",
+        letter: None,
+        takes: Takes::Text("N,M"),
+        help: "ranges from field N to field M, in place of field N",
     },
     OptionEntry {
         heading: LINES,

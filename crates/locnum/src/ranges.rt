@@ -76,9 +76,22 @@ fn plural_ranges_in(
 
 /// What tables say of ranges for the locale and the numbering system.
 #[derive(Drop)]
-struct RangeData {
+pub(crate) struct RangeData {
     pattern: RangePattern,
     plural_ranges: PluralRanges,
+}
+
+impl RangeData {
+    /// How two numbers are written as one range.
+    pub(crate) fn style(&self) -> PluralRangeStyle<'_> {
+        PluralRangeStyle {
+            style: RangeStyle {
+                pattern: &self.pattern,
+                fallback: RangeIdentityFallback::SingleValue,
+            },
+            plural_ranges: &self.plural_ranges,
+        }
+    }
 }
 
 /// What tables of ranges say of ranges for the locale and the numbering system.
@@ -96,7 +109,11 @@ fn data_in(
 }
 
 /// What a file of tables says of ranges.
-fn data_of(alloc: Global, file: &[u8], settings: &Settings<'_>) -> Result<RangeData, StartError> {
+pub(crate) fn data_of(
+    alloc: Global,
+    file: &[u8],
+    settings: &Settings<'_>,
+) -> Result<RangeData, StartError> {
     let Ok(text) = str::from_utf8(file) else {
         return Err(StartError::NotUtf8);
     };
@@ -228,13 +245,7 @@ fn run_by_data(
     form: &Form,
     words: &[&str],
 ) -> u8 {
-    let style = PluralRangeStyle {
-        style: RangeStyle {
-            pattern: &data.pattern,
-            fallback: RangeIdentityFallback::SingleValue,
-        },
-        plural_ranges: &data.plural_ranges,
-    };
+    let style = data.style();
     let mut streams = Streams::new(rt);
     let ran = run_words(rt, &mut streams, &mut lines, form, Some(&style), words);
     if let Err(error) = &ran {
