@@ -68,6 +68,8 @@ lines 1 'item,low\nx,3\n' 'item,low\n' 'locnum: no field high; the header has it
 lines 1 '3,5\n6,"x\n7\n' "3${dash}5\n" 'locnum: line 2: a quote without an end' --csv --range 1,2
 # texts that have no range
 lines 2 '1 2\n5 3\n1 2\n' "1${dash}2\n" 'locnum: line 2, field 1 to field 2: 5..3: the start is above the end' --range 1,2
+lines 2 'a,b,5,3\nc,d,1,2\n' 'a,b,' 'locnum: line 1, field 3 to field 4: 5..3: the start is above the end' -d , --range 3,4
+lines 2 'a,3,b,5\n' 'a,' 'locnum: line 1, field 4 to field 2: 5..3: the start is above the end' --csv --range 4,2
 lines 2 '5 3\n1 2\n' "5 3\n1${dash}2\n" 'locnum: line 1, field 1 to field 2: 5..3: the start is above the end' --range 1,2 --invalid fail
 lines 0 'x 3\n1 2\n' "x 3\n1${dash}2\n" 'locnum: line 1, field 1 to field 2: x..3: the start: not a decimal' --range 1,2 --invalid warn
 lines 0 'x 3\n1 2\n' "x 3\n1${dash}2\n" '' --range 1,2 --invalid ignore

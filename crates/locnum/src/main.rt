@@ -28,6 +28,7 @@ mod positions;
 mod range_given;
 mod range_lines;
 mod range_notes;
+mod range_output;
 mod ranges;
 mod read_tables;
 mod running;

@@ -1,27 +1,22 @@
 //! Ranges of two fields of lines.
 
 use crate::ending::status_of_run;
-use crate::explained::{put, reader};
+use crate::explained::reader;
 use crate::explained_fields::{ReadRecord, bytes_behind, read_record};
 use crate::range_given::RangeColumns;
 use crate::range_notes::note_of_fields;
+use crate::range_output::{RangeRun, Record, or_memory};
 use crate::ranges::data_of;
 use crate::running::report_met;
 use crate::streams::Streams;
 use crate::tables::TablesFile;
 use crate::words::{joined, nothing};
 use icu_unit_ranges::PluralRangeStyle;
-use locnum_lines::{
-    Delimiter, FoundNumber, LineSettings, NumberFinder, RecordState, Refusals, Report, RunError,
-};
-use locnum_ranges::{RangeFields, column_named, push_record};
+use locnum_lines::{Delimiter, FoundNumber, LineSettings, RecordState, Refusals, Report, RunError};
+use locnum_ranges::{RangeFields, column_named};
 use number_forms::{Form, Settings, StartError};
 use number_ranges::{RangeTextError, push_plural_range};
-use std::alloc::{AllocError, Global};
-use std::io::Write;
-
-/// How many bytes are written at once, or a record more.
-const BLOCK_LEN: usize = 65536;
+use std::alloc::Global;
 
 /// What ranges of fields are written by.
 #[derive(Clone, Copy)]
@@ -34,32 +29,6 @@ struct RangeWriter<'a, 'b> {
     style: &'a PluralRangeStyle<'b>,
     /// The two fields.
     columns: RangeColumns,
-}
-
-/// How far a run of ranges of fields is.
-#[derive(Drop)]
-struct RangeRun {
-    /// Finds the two numbers of a record.
-    finder: NumberFinder,
-    /// The two fields, as soon as they are known.
-    fields: Option<RangeFields>,
-    /// What isn't written yet.
-    out: Vec<u8>,
-}
-
-/// The record that is read, and the byte that ends it, if one does.
-#[derive(Clone, Copy)]
-struct Record<'a> {
-    text: &'a [u8],
-    end: &'a [u8],
-}
-
-/// The call's answer, unless memory ran out.
-fn or_memory(pushed: Result<(), AllocError>) -> Result<(), RunError> {
-    match pushed {
-        Ok(()) => Ok(()),
-        Err(_) => Err(RunError::OutOfMemory),
-    }
 }
 
 /// Whether quotes are open behind a record.
@@ -78,61 +47,6 @@ fn holding(alloc: Global, delimiter: Delimiter, range: &[u8]) -> Result<Vec<u8>,
         }
     }
     Ok(holding)
-}
-
-impl RangeRun {
-    /// Writes what isn't written yet.
-    fn flush(&mut self, streams: &mut Streams) -> Result<(), RunError> {
-        put(streams, &self.out)?;
-        self.out.clear();
-        Ok(())
-    }
-
-    /// Writes what isn't written yet, if it is a block.
-    fn flush_block(&mut self, streams: &mut Streams) -> Result<(), RunError> {
-        if self.out.len() < BLOCK_LEN {
-            return Ok(());
-        }
-        self.flush(streams)
-    }
-
-    /// A record as it is.
-    fn pass(&mut self, record: Record<'_>) -> Result<(), RunError> {
-        or_memory(self.out.extend_from_slice(record.text))?;
-        or_memory(self.out.extend_from_slice(record.end))
-    }
-
-    /// A record with the range of its two fields; without one the field of the end is left out all
-    /// the same.
-    fn push(
-        &mut self,
-        alloc: Global,
-        lines: &LineSettings,
-        fields: RangeFields,
-        range: Option<&[u8]>,
-        record: Record<'_>,
-    ) -> Result<(), RunError> {
-        or_memory(push_record(alloc, lines, fields, range, record.text, &mut self.out))?;
-        or_memory(self.out.extend_from_slice(record.end))
-    }
-
-    /// Writes a note behind what isn't written yet.
-    fn note(&mut self, streams: &mut Streams, note: &[u8]) -> Result<(), RunError> {
-        self.flush(streams)?;
-        match streams.notes.write_all(note) {
-            Ok(()) => Ok(()),
-            Err(_) => Err(RunError::Write),
-        }
-    }
-
-    /// Writes the note of what ended the search.
-    fn note_end(&mut self, streams: &mut Streams) -> Result<(), RunError> {
-        self.flush(streams)?;
-        match streams.notes.write_all(self.finder.notes()) {
-            Ok(()) => Ok(()),
-            Err(_) => Err(RunError::Write),
-        }
-    }
 }
 
 impl RangeWriter<'_, '_> {
@@ -199,7 +113,7 @@ impl RangeWriter<'_, '_> {
         Ok(report)
     }
 
-    /// A record whose range isn't written.
+    /// A record whose range isn't written: it goes through as it is, unless the run stops there.
     fn refuse(
         &self,
         rt: &HostRuntime,
@@ -207,6 +121,7 @@ impl RangeWriter<'_, '_> {
         run: &mut RangeRun,
         start: &FoundNumber,
         end: &FoundNumber,
+        fields: RangeFields,
         error: RangeTextError,
         record: Record<'_>,
     ) -> Result<Report, RunError> {
@@ -219,7 +134,9 @@ impl RangeWriter<'_, '_> {
             };
             run.note(streams, &note)?;
         }
-        if !report.is_stopped {
+        if report.is_stopped {
+            run.push_front(self.lines, fields, record)?;
+        } else {
             run.pass(record)?;
         }
         Ok(report)
@@ -248,7 +165,7 @@ impl RangeWriter<'_, '_> {
         ) {
             Ok(()) => {}
             Err(RangeTextError::OutOfMemory) => return Err(RunError::OutOfMemory),
-            Err(error) => return self.refuse(rt, streams, run, start, end, error, record),
+            Err(error) => return self.refuse(rt, streams, run, start, end, fields, error, record),
         }
         run.push(alloc, self.lines, fields, Some(&range), record)?;
         let mut report = nothing(alloc);
@@ -350,14 +267,11 @@ impl RangeWriter<'_, '_> {
 
     /// The records of standard input, all of which are written at the end.
     fn write(&self, rt: &HostRuntime, streams: &mut Streams) -> Result<Report, RunError> {
-        let mut run = RangeRun {
-            finder: NumberFinder::new(rt.alloc(), self.lines),
-            fields: match self.columns {
-                RangeColumns::Numbers(fields) => Some(fields),
-                RangeColumns::Names => None,
-            },
-            out: Vec::new(rt.alloc()),
+        let fields = match self.columns {
+            RangeColumns::Numbers(fields) => Some(fields),
+            RangeColumns::Names => None,
         };
+        let mut run = RangeRun::new(rt.alloc(), self.lines, fields);
         let ran = self.write_records(rt, streams, &mut run);
         run.flush(streams)?;
         let mut report = ran?;

@@ -1,3 +1,4 @@
-pub mod Places
+pub mod Fields
+pub mod Contents
 pub mod Placed
 pub mod Written

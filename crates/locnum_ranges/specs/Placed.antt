@@ -1,16 +1,16 @@
 -- A range in the place of the number of a field.
-use Rattle.std.specs.Prelude.{ℕ, ◌+◌, ◌||◌, nat_lt, min, List, ◌++◌, drop, length, take, Option, Some, None, option_map, if◌then◌else◌}
-use Rattle.locnum_lines.specs.Csv.{as_field, content_from, core_length, is_in_quotes}
+use Rattle.std.specs.Prelude.{ℕ, ◌+◌, ◌||◌, nat_lt, min, List, ◌++◌, drop, length, Option, Some, None, option_map, if◌then◌else◌}
+use Rattle.locnum_lines.specs.Csv.{as_field, core_length, is_in_quotes}
 use Rattle.locnum_lines.specs.FieldRuns.{blanks_kept}
 use Rattle.locnum_lines.specs.Fields.{Cut, cut_field}
 use Rattle.locnum_lines.specs.Padding.{padded}
 use Rattle.locnum_lines.specs.Settings.{SettingsData}
 use Rattle.locnum_lines.specs.Widths.{padding_width}
-use Rattle.locnum_lines.specs.declared.cutting.FieldState.TheVariants.{Front}
 use Rattle.locnum_lines.specs.declared.padding.Alignment.TheVariants.{Right}
 use Rattle.locnum_lines.specs.declared.padding.Padding.{Padding}
 use Rattle.locnum_lines.specs.declared.settings.Delimiter.{Delimiter}
 use Rattle.locnum_lines.specs.declared.settings.Delimiter.TheVariants.{Blanks, Byte, Csv}
+use Rattle.locnum_ranges.specs.Contents.{csv_content}
 
 -- how many columns a range takes at least in a field of this number itself, which blanks end: as many as its number with the blanks
 -- in front of it, if there are any or the field isn't the first one, and at most 65,535
@@ -41,7 +41,7 @@ in_place settings index field range =
 abbrev pub in_csv : SettingsData → ℕ → ℕ → List ℕ → List ℕ → List ℕ
 in_csv settings index delimiter field range =
     as_field delimiter settings.end (is_in_quotes field)
-    (in_place settings index (cut_field (content_from Front (take (core_length field) field))) range) ++ drop (core_length field) field
+    (in_place settings index (cut_field (csv_content field)) range) ++ drop (core_length field) field
 
 -- in a field that ends so
 abbrev pub in_field : SettingsData → ℕ → Delimiter → List ℕ → List ℕ → List ℕ

@@ -1,9 +1,9 @@
 -- Records of which two fields become one: a range stands in the field of the start, and the field of the end is left out.
-use Rattle.std.specs.Prelude.{ℕ, suc, ◌==◌, List, [], ◌∷◌, ◌++◌, drop, take, Option, Some, None, if◌then◌else◌}
+use Rattle.std.specs.Prelude.{ℕ, suc, ◌==◌, nat_lt, List, [], ◌∷◌, ◌++◌, drop, take, Option, Some, None, if◌then◌else◌}
 use Rattle.locnum_lines.specs.Csv.{core_length}
-use Rattle.locnum_lines.specs.Fields.{Field, fields_from}
+use Rattle.locnum_lines.specs.Fields.{Field}
 use Rattle.locnum_lines.specs.Settings.{SettingsData}
-use Rattle.locnum_lines.specs.declared.cutting.FieldState.TheVariants.{Front}
+use Rattle.locnum_ranges.specs.Fields.{fields_in}
 use Rattle.locnum_ranges.specs.Placed.{in_field}
 use Rattle.locnum_ranges.specs.declared.writing.RangeFields.{RangeFields}
 
@@ -33,5 +33,11 @@ fields_written settings fields range index before (field ∷ rest) =
 -- a record: its fields, and the carriage return at its end, if it has one
 abbrev pub record_written : SettingsData → RangeFields → Option (List ℕ) → List ℕ → List ℕ
 record_written settings fields range line =
-    fields_written settings fields range 1 [] (fields_from settings.delimiter Front (take (core_length line) line))
+    fields_written settings fields range 1 [] (fields_in settings.delimiter (take (core_length line) line))
     ++ drop (core_length line) line
+
+-- the fields from this number on that stand in front of the field of number `first`, each with the byte that ends it
+unfoldable pub front_written : ℕ → ℕ → List Field → List ℕ
+front_written first index [] = []
+front_written first index (field ∷ rest) =
+    if nat_lt index first then (field.text ++ field.behind) ++ front_written first (suc index) rest else []

@@ -2,8 +2,7 @@
 
 ghost use Rattle.std.specs.Prelude.{◌≡◌, IfOk, nat_eq};
 ghost use Rattle.std.specs.Cmp.Lexicographic.{pointwise};
-ghost use Rattle.locnum_lines.specs.Named.{column_from};
-ghost use Rattle.locnum_lines.specs.Stage.{name_in, names_in};
+ghost use Rattle.locnum_ranges.specs.Contents.{column_named, name_in};
 
 use crate::cutting::first_field;
 use crate::naming::name_in;
@@ -34,7 +33,7 @@ pub fn column_named(
     header: &[u8],
 ) -> Result<Option<usize>, AllocError>
     ensures { IfOk result (λ column.
-        column ≡ column_from 1 name.now (names_in delimiter header.now)) }
+        column ≡ column_named delimiter name.now header.now) }
 {
     let mut next = Some(header);
     let mut index: usize = 1;

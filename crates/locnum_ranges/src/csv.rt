@@ -1,9 +1,9 @@
 //! What a field of CSV contains, and how a text is written as one (RFC 4180).
 
 ghost use Rattle.std.specs.Prelude.{◌≡◌, ◌++◌, IfOk, OnOk};
-ghost use Rattle.locnum_lines.specs.Csv.{as_field, between_quotes, content_from, core_length, doubled, is_content, is_in_quotes, is_special, kept, quoted, wants_quotes};
-ghost use Rattle.locnum_lines.specs.declared.cutting.FieldState.TheVariants.{Front};
-ghost use Rattle.locnum_ranges.specs.Places.{state_of};
+ghost use Rattle.locnum_lines.specs.Csv.{as_field, between_quotes, core_length, doubled, is_in_quotes, is_special, quoted, wants_quotes};
+ghost use Rattle.locnum_ranges.specs.Contents.{content_from, is_content, kept};
+ghost use Rattle.locnum_ranges.specs.declared.cutting.Place.TheVariants.{Front};
 
 use crate::cutting::{Place, csv_place};
 use std::alloc::{AllocError, Global};
@@ -32,7 +32,7 @@ pub(crate) fn is_in_quotes(text: &[u8]) -> bool
 
 /// Whether a byte at this place is of the content.
 fn is_content(place: Place, byte: u8) -> bool
-    ensures { result ≡ is_content (state_of place) byte }
+    ensures { result ≡ is_content place byte }
 {
     match place {
         Place::Front | Place::Quoted => byte != b'"',
@@ -42,7 +42,7 @@ fn is_content(place: Place, byte: u8) -> bool
 
 /// Appends what this byte gives to the content.
 fn keep(place: Place, byte: u8, content: &mut Vec<u8>) -> Result<(), AllocError>
-    ensures { OnOk result (content.new.items ≡ content.old.items ++ kept (state_of place) byte) }
+    ensures { OnOk result (content.new.items ≡ content.old.items ++ kept place byte) }
 {
     if is_content(place, byte) {
         content.push(byte)?;

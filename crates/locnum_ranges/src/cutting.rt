@@ -1,9 +1,9 @@
 //! Where fields end, and what of them is a number.
 
 ghost use Rattle.std.specs.Prelude.{◌≡◌, ◌<◌, ◌∷◌, IfSome, length, option_map};
-ghost use Rattle.locnum_lines.specs.Fields.{blanks_before, content_length, csv_state, ends_field, field_length, fields_from, is_blank, is_blank_behind, is_plain, is_quoted, next_state};
-ghost use Rattle.locnum_lines.specs.declared.cutting.FieldState.TheVariants.{Front};
-ghost use Rattle.locnum_ranges.specs.Places.{fields_of_rest, state_of};
+ghost use Rattle.locnum_lines.specs.Fields.{blanks_before, content_length, is_blank, is_blank_behind};
+ghost use Rattle.locnum_ranges.specs.Fields.{csv_place, ends_field, field_length, fields_in, fields_of_rest, is_plain, is_quoted, next_place};
+ghost use Rattle.locnum_ranges.specs.declared.cutting.Place.TheVariants.{Front};
 
 use locnum_lines::Delimiter;
 
@@ -47,7 +47,7 @@ fn is_blank_behind(byte: u8) -> bool
 
 /// Whether a place is in a field, outside of quotes.
 fn is_plain(place: Place) -> bool
-    ensures { result ≡ is_plain (state_of place) }
+    ensures { result ≡ is_plain place }
 {
     match place {
         Place::Plain => true,
@@ -57,7 +57,7 @@ fn is_plain(place: Place) -> bool
 
 /// Whether a place is between quotes.
 fn is_quoted(place: Place) -> bool
-    ensures { result ≡ is_quoted (state_of place) }
+    ensures { result ≡ is_quoted place }
 {
     match place {
         Place::Quoted => true,
@@ -67,7 +67,7 @@ fn is_quoted(place: Place) -> bool
 
 /// Whether a byte at this place ends its field.
 fn ends_field(delimiter: Delimiter, place: Place, byte: u8) -> bool
-    ensures { result ≡ ends_field delimiter (state_of place) byte }
+    ensures { result ≡ ends_field delimiter place byte }
 {
     match delimiter {
         Delimiter::Blanks => is_plain(place) && is_blank(byte),
@@ -78,7 +78,7 @@ fn ends_field(delimiter: Delimiter, place: Place, byte: u8) -> bool
 
 /// The place behind a byte of a field of CSV.
 pub(crate) fn csv_place(place: Place, byte: u8) -> Place
-    ensures { state_of result ≡ csv_state (state_of place) byte }
+    ensures { result ≡ csv_place place byte }
 {
     match place {
         Place::Front => if byte == b'"' {
@@ -102,7 +102,7 @@ pub(crate) fn csv_place(place: Place, byte: u8) -> Place
 
 /// The place behind a byte that its field goes on with.
 fn next_place(delimiter: Delimiter, place: Place, byte: u8) -> Place
-    ensures { state_of result ≡ next_state delimiter (state_of place) byte }
+    ensures { result ≡ next_place delimiter place byte }
 {
     match delimiter {
         Delimiter::Blanks => if is_blank(byte) { place } else { Place::Plain },
@@ -126,7 +126,7 @@ fn field_length(delimiter: Delimiter, line: &[u8]) -> usize
 
 /// The first field of a record, and the rest behind the byte that ends it, unless it is the last.
 pub(crate) fn first_field(delimiter: Delimiter, line: &[u8]) -> FirstField<'_>
-    ensures fields { fields_from delimiter Front line.now
+    ensures fields { fields_in delimiter line.now
         ≡ record { text = result.text.now; behind = result.behind.now }
         ∷ fields_of_rest delimiter (option_map (λ s. s.now) result.rest) }
     ensures shorter { IfSome result.rest (λ rest. length rest.now < length line.now) }

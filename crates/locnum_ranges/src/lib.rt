@@ -9,4 +9,4 @@ mod placing;
 mod writing;
 
 pub use columns::column_named;
-pub use writing::{RangeFields, push_record};
+pub use writing::{RangeFields, push_front, push_record};

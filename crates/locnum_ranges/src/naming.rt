@@ -1,10 +1,8 @@
 //! The name that a field of the header gives its column.
 
-ghost use Rattle.std.specs.Prelude.{◌≡◌, IfOk, take};
-ghost use Rattle.locnum_lines.specs.Csv.{content_from, core_length};
+ghost use Rattle.std.specs.Prelude.{◌≡◌, IfOk};
 ghost use Rattle.locnum_lines.specs.Fields.{cut_field};
-ghost use Rattle.locnum_lines.specs.Stage.{name_in};
-ghost use Rattle.locnum_lines.specs.declared.cutting.FieldState.TheVariants.{Front};
+ghost use Rattle.locnum_ranges.specs.Contents.{csv_content, name_in};
 
 use crate::csv::{content_of, core_length};
 use crate::cutting::{blanks_before, content_length};
@@ -21,8 +19,7 @@ fn trimmed(text: &[u8]) -> &[u8]
 
 /// The content of a field of CSV that may have a carriage return at its end.
 pub(crate) fn csv_content(alloc: Global, text: &[u8]) -> Result<Vec<u8>, AllocError>
-    ensures { IfOk result (λ content.
-        content.items ≡ content_from Front (take (core_length text.now) text.now)) }
+    ensures { IfOk result (λ content. content.items ≡ csv_content text.now) }
 {
     content_of(alloc, text.split_at(core_length(text)).0)
 }

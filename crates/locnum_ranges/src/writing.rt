@@ -1,14 +1,13 @@
 //! Records of which two fields become one.
 
-ghost use Rattle.std.specs.Prelude.{◌≡◌, ◌++◌, [], IfOk, OnOk, option_map};
-ghost use Rattle.locnum_lines.specs.Fields.{fields_from};
-ghost use Rattle.locnum_lines.specs.declared.cutting.FieldState.TheVariants.{Front};
-ghost use Rattle.locnum_ranges.specs.Written.{behind_field, field_written, fields_written, joined_field, record_written};
+ghost use Rattle.std.specs.Prelude.{◌≡◌, ◌++◌, [], IfOk, OnOk, min, option_map};
+ghost use Rattle.locnum_ranges.specs.Fields.{fields_in};
+ghost use Rattle.locnum_ranges.specs.Written.{behind_field, field_written, fields_written, front_written, joined_field, record_written};
 
 use crate::csv::core_length;
 use crate::cutting::{FirstField, first_field};
 use crate::placing::push_in_field;
-use locnum_lines::LineSettings;
+use locnum_lines::{Delimiter, LineSettings};
 use std::alloc::{AllocError, Global};
 
 /// The two fields of a range, by their numbers from 1 on (this project's own).
@@ -53,9 +52,9 @@ fn push_field<'a>(
     out: &mut Vec<u8>,
 ) -> Result<&'a [u8], AllocError>
     ensures out { OnOk result (out.new.items ≡ out.old.items ++ joined_field settings.now fields
-        (option_map (λ s. s.now) range.entry) index before.now first.text.now) }
+        (option_map (λ s. s.now) range.entry) index before.now first.entry.text.now) }
     ensures behind { IfOk result (λ behind.
-        behind.now ≡ behind_field fields.end index before.now first.behind.now) }
+        behind.now ≡ behind_field fields.end index before.now first.entry.behind.now) }
 {
     if index == fields.end {
         return Ok(before);
@@ -76,7 +75,7 @@ fn push_fields(
 ) -> Result<(), AllocError>
     ensures { OnOk result (out.new.items ≡ out.old.items ++ fields_written settings.now fields
         (option_map (λ s. s.now) range.entry) 1 []
-        (fields_from settings.now.delimiter Front «record».now)) }
+        (fields_in settings.now.delimiter «record».now)) }
 {
     let mut next = Some(record);
     let mut index: usize = 1;
@@ -117,4 +116,39 @@ pub fn push_record(
     let (core, behind) = record.split_at(core_length(record));
     push_fields(alloc, settings, fields, range, core, out)?;
     out.extend_from_slice(behind)
+}
+
+/// Appends the fields of a record that stand in front of both fields of a range, each with the byte
+/// that ends it (this project's own).
+///
+/// It is what is left of a record at whose range a run stops.
+// promise: Of a record without a range the front is left.
+// mutations: range_front_with_the_first_field
+pub fn push_front(
+    delimiter: Delimiter,
+    fields: RangeFields,
+    record: &[u8],
+    out: &mut Vec<u8>,
+) -> Result<(), AllocError>
+    ensures { OnOk result (out.new.items ≡ out.old.items
+        ++ front_written (min fields.start fields.end) 1
+        (fields_in delimiter «record».now)) }
+{
+    let first = fields.start.min(fields.end);
+    let mut next = Some(record);
+    let mut index: usize = 1;
+    while let Some(line) = next {
+        if index >= first {
+            return Ok(());
+        }
+        let field = first_field(delimiter, line);
+        out.extend_from_slice(field.text)?;
+        out.extend_from_slice(field.behind)?;
+        let Some(following) = index.checked_add(1) else {
+            return Err(AllocError);
+        };
+        index = following;
+        next = field.rest;
+    }
+    Ok(())
 }
