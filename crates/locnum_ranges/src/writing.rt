@@ -99,9 +99,9 @@ fn push_fields(
 /// ends lines behind it. If the field of the end is the last one, the delimiter in front of it goes,
 /// and a carriage return at its end stays.
 // promise: The range and the other fields stand as they stood.
-// mutations: range_in_the_field_of_the_end, range_without_its_blanks
+// mutations: range_in_no_field, range_without_its_blanks
 // promise: The field of the end is left out with its delimiter.
-// mutations: range_end_without_its_delimiter
+// mutations: range_end_leaves_its_delimiter
 pub fn push_record(
     alloc: Global,
     settings: &LineSettings,
