@@ -1,7 +1,7 @@
 -- What a field contains, and the columns that a header names.
 use Rattle.std.specs.Prelude.{ℕ, Bool, true, not, ◌==◌, List, [], ◌∷◌, ◌++◌, map, take, Option, if◌then◌else◌}
 use Rattle.locnum_lines.specs.Csv.{core_length}
-use Rattle.locnum_lines.specs.Fields.{Field, cut_field}
+use Rattle.locnum_lines.specs.Fields.{cut_field}
 use Rattle.locnum_lines.specs.Named.{column_from}
 use Rattle.locnum_lines.specs.declared.settings.Delimiter.{Delimiter}
 use Rattle.locnum_lines.specs.declared.settings.Delimiter.TheVariants.{Blanks, Byte, Csv}

@@ -11,7 +11,7 @@ returns-then-branch c =
     let i = rw c.in-Some.is at c.loop-next.invariant in
     sym (i
     ∙ ap (λ (k : List Field). column_from c.loop-next.index c.args.name.now (map (λ field. name_in c.args.delimiter field.text) k))
-        c.first_field-first.ensures.fields
+    c.first_field-first.ensures.fields
     ∙ column-here c.loop-next.index c.args.name.now _ _ (sym c.in_ok-is_named.ensures ∙ c.if-branch.true))
 
 pub loop-next-preserved : goal.loop-next-preserved
@@ -19,9 +19,9 @@ loop-next-preserved c =
     let i = rw c.in-Some.is at c.loop-next.invariant in
     i
     ∙ ap (λ (k : List Field). column_from c.loop-next.index c.args.name.now (map (λ field. name_in c.args.delimiter field.text) k))
-        c.first_field-first.ensures.fields
+    c.first_field-first.ensures.fields
     ∙ column-later c.loop-next.index c.args.name.now _ _ c.in-Some-checked_add.following c.in-Some-checked_add.ensures.1
-        (sym c.in_ok-is_named.ensures ∙ c.if-branch.false)
+    (sym c.in_ok-is_named.ensures ∙ c.if-branch.false)
 
 pub returns : goal.returns
 returns c =

@@ -15,15 +15,15 @@ loop-next-preserved c =
     let fields = rw delimiter at c.first_field-first.ensures.fields in
     one-more _ c.loop-next.out.items c.push_field.new.out.items _ _ _ i
     (ap (λ (k : List Field). fields_written c.args.settings.now c.args.fields (option_map (λ s. s.now) c.args.range) c.loop-next.index
-            c.loop-next.before.now k)
-        fields
+    c.loop-next.before.now k)
+    fields
     ∙ written-more c.args.settings.now c.args.fields (option_map (λ s. s.now) c.args.range) c.loop-next.index c.loop-next.before.now _ _
-        c.in-Some-checked_add.following c.in_ok-before.before.now c.in-Some-checked_add.ensures.1 c.in_ok-before.ensures.behind)
+    c.in-Some-checked_add.following c.in_ok-before.before.now c.in-Some-checked_add.ensures.1 c.in_ok-before.ensures.behind)
     c.in_ok-before.ensures.out
 
 pub returns : goal.returns
 returns c =
     let i = rw c.in_default.is at c.loop-next.invariant in
     sym (i ∙ ap (λ (k : List ℕ). c.loop-next.out.items ++ k)
-        (written-none c.args.settings.now c.args.fields (option_map (λ s. s.now) c.args.range) c.loop-next.index c.loop-next.before.now)
+    (written-none c.args.settings.now c.args.fields (option_map (λ s. s.now) c.args.range) c.loop-next.index c.loop-next.before.now)
     ∙ append-nil c.loop-next.out.items)

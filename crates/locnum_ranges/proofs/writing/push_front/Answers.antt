@@ -16,7 +16,7 @@ loop-next-preserved c =
     two-more _ c.loop-next.out.items c.extend_from_slice.new.self.items c.extend_from_slice-in-Some.new.self.items _ _ _ _ i
     (ap (λ (k : List Field). front_written c.min-first.result c.loop-next.index k) c.first_field-field.ensures.fields
     ∙ front-more c.min-first.result c.loop-next.index _ _ c.in-Some-checked_add.following c.in-Some-checked_add.ensures.1
-        (omega (arith, c.if-index-first.false)))
+    (omega (arith, c.if-index-first.false)))
     c.in_ok-extend_from_slice.ensures.items c.in_ok-extend_from_slice-2.ensures.items
 
 pub returns : goal.returns

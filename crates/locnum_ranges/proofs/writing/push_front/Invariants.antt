@@ -1,5 +1,5 @@
 use Rattle.std.proofs.Common.{◌≡◌, ℕ, suc, ◌++◌, List, length, Option, Some, None}
-use Rattle.std.specs.Prelude.{min, option_map}
+use Rattle.std.specs.Prelude.{option_map}
 use Rattle.locnum_ranges.specs.Fields.{fields_in, fields_of_rest}
 use Rattle.locnum_ranges.specs.Written.{front_written}
 use Rattle.locnum_ranges.proofs.writing.push_front.Given as goal
