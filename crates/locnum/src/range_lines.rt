@@ -55,10 +55,11 @@ impl RangeWriter<'_, '_> {
         if let RangeColumns::Numbers(fields) = self.columns {
             return Ok(Some(fields));
         }
-        let [start, end] = self.lines.names.as_slice() else {
+        let lines = self.lines;
+        let [start, end] = lines.names.as_slice() else {
             return Ok(None);
         };
-        let delimiter = self.lines.delimiter;
+        let delimiter = lines.delimiter;
         let Ok(start) = column_named(alloc, delimiter, start, header) else {
             return Err(RunError::OutOfMemory);
         };
@@ -125,17 +126,18 @@ impl RangeWriter<'_, '_> {
         error: RangeTextError,
         record: Record<'_>,
     ) -> Result<Report, RunError> {
+        let lines = self.lines;
         let mut report = nothing(rt.alloc());
         report.is_refused = true;
-        report.is_stopped = self.lines.refusals == Refusals::Abort;
-        if self.lines.refusals != Refusals::Ignore {
+        report.is_stopped = lines.refusals == Refusals::Abort;
+        if lines.refusals != Refusals::Ignore {
             let Ok(note) = note_of_fields(rt.alloc(), start, end, error) else {
                 return Err(RunError::OutOfMemory);
             };
             run.note(streams, &note)?;
         }
         if report.is_stopped {
-            run.push_front(self.lines, fields, record)?;
+            run.push_front(lines, fields, record)?;
         } else {
             run.pass(record)?;
         }
@@ -167,9 +169,10 @@ impl RangeWriter<'_, '_> {
             Err(RangeTextError::OutOfMemory) => return Err(RunError::OutOfMemory),
             Err(error) => return self.refuse(rt, streams, run, start, end, fields, error, record),
         }
-        run.push(alloc, self.lines, fields, Some(&range), record)?;
+        let lines = self.lines;
+        run.push(alloc, lines, fields, Some(&range), record)?;
         let mut report = nothing(alloc);
-        report.holding = holding(alloc, self.lines.delimiter, &range)?;
+        report.holding = holding(alloc, lines.delimiter, &range)?;
         Ok(report)
     }
 
@@ -227,10 +230,11 @@ impl RangeWriter<'_, '_> {
         record: Record<'_>,
     ) -> Result<Report, RunError> {
         run.flush_block(streams)?;
-        if index >= self.lines.header {
+        let lines = self.lines;
+        if index >= lines.header {
             return self.write_record(rt, streams, run, record);
         }
-        let is_last = self.lines.header - index == 1;
+        let is_last = lines.header - index == 1;
         self.write_header(rt, streams, run, is_last, record)
     }
 
@@ -241,15 +245,16 @@ impl RangeWriter<'_, '_> {
         streams: &mut Streams,
         run: &mut RangeRun,
     ) -> Result<Report, RunError> {
+        let lines = self.lines;
         let mut reader = reader(rt)?;
         let mut bytes = Vec::new(rt.alloc());
         let mut report = nothing(rt.alloc());
-        let line_end = [self.lines.end];
+        let line_end = [lines.end];
         for index in 0..u64::MAX {
             let is_first = index == 0;
-            let read = read_record(streams, &mut reader, self.lines, is_first, &mut bytes)?;
+            let read = read_record(streams, &mut reader, lines, is_first, &mut bytes)?;
             let text = bytes_behind(&bytes, 0, is_first);
-            let mark = bytes.split_at(bytes.len() - text.len()).0;
+            let mark = bytes.split_at(bytes.len().saturating_sub(text.len())).0;
             or_memory(run.out.extend_from_slice(mark))?;
             let end = match read {
                 ReadRecord::Nothing => return Ok(report),
@@ -281,13 +286,14 @@ impl RangeWriter<'_, '_> {
 
     /// Runs ranges of fields; the status.
     fn run(&self, rt: &HostRuntime) -> u8 {
+        let lines = self.lines;
         let mut streams = Streams::new(rt);
         let ran = self.write(rt, &mut streams);
         match &ran {
-            Ok(report) => report_met(rt, self.lines, report),
+            Ok(report) => report_met(rt, lines, report),
             Err(error) => streams.report(rt, *error),
         }
-        status_of_run(self.lines.refusals, streams.is_reader_gone(), &ran)
+        status_of_run(lines.refusals, streams.is_reader_gone(), &ran)
     }
 }
 
