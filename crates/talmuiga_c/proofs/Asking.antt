@@ -1,11 +1,10 @@
 -- What is read of the text of a message.
 use Rattle.std.proofs.Common.{◌≡◌, ℕ, Bool, true, false, List, Ok, Err, refl}
-use Rattle.std.specs.Prelude.{Result, if◌then◌else◌}
+use Rattle.std.specs.Prelude.{if◌then◌else◌}
 use Rattle.std.specs.Str.{IsUtf8, IsValidUpTo, is_utf8}
 use Rattle.std.proofs.lemmas.Str.{IsUtf8-from_is_utf8, is_utf8-from_IsUtf8, utf8_valid_len-IsValidUpTo}
 use Rattle.talmuiga_c.specs.Messages.{text_asked}
 use Rattle.talmuiga_c.specs.SkeletonFaults.{not_utf8_at}
-use Rattle.talmuiga_c.specs.declared.fault.Fault.{Fault}
 
 module _ (bytes : List ℕ) where
   -- of a text

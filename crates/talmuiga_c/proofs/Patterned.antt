@@ -23,7 +23,7 @@ use Rattle.talmuiga_c.specs.Handle.{empty}
 use Rattle.talmuiga_c.specs.Patterns.{pattern_status}
 use Rattle.talmuiga_c.specs.Ranges.{OpensBoth, RangeOf, range_status}
 use Rattle.talmuiga_c.specs.Skeletons.{form_asked, form_status}
-use Rattle.talmuiga_c.specs.declared.kept.Kept.{Kept}
+use Rattle.talmuiga_c.specs.declared.held.Held.{Held}
 use Rattle.talmuiga_c.proofs.Unformed.{asked-is}
 
 -- why there is no pattern if a text is rejected
@@ -45,7 +45,7 @@ answer-stops refusal.InvalidRequest context answer is = ap started is
 answer-stops refusal.Custom context answer is = ap started is
 answer-stops refusal.OutOfMemory context answer is = tt
 
-module _ (held : Option (Option Kept)) (is_empty : held ≡ empty) where
+module _ (held : Option (Option Held)) (is_empty : held ≡ empty) where
   unopened : (form : Result FormData StartError) (pattern : Result Separator StartError) → OpensBoth form pattern held out_of_memory
   unopened (Ok form) (Ok pattern) = inr (is_empty, refl)
   unopened (Ok form) (Err error) = (is_empty, inr refl)

@@ -11,7 +11,7 @@ use Rattle.number_forms.specs.declared.error.StartError.TheVariants as start
 use Rattle.talmuiga_c.specs.Endings.{out_of_memory}
 use Rattle.talmuiga_c.specs.Handle.{empty}
 use Rattle.talmuiga_c.specs.Skeletons.{OpensForm, form_asked, form_status}
-use Rattle.talmuiga_c.specs.declared.kept.Kept.{Kept}
+use Rattle.talmuiga_c.specs.declared.held.Held.{Held}
 use Rattle.talmuiga_c.proofs.Texts.{is_no_text}
 
 module _ (settings : FormSettings) (tables : List ℕ) where
@@ -30,7 +30,7 @@ module _ (settings : FormSettings) (tables : List ℕ) where
       → (¬ (IsUtf8 tables) → ◌≡◌ {A = Result FormData StartError} (Ok form) (Err start.NotUtf8)) → form_asked settings tables ≡ Ok form
   form-made form text no_text = asked-is (Ok form) text no_text
 
-  module _ (held : Option (Option Kept)) (is_empty : held ≡ empty) where
+  module _ (held : Option (Option Held)) (is_empty : held ≡ empty) where
     unopened : (asked : Result FormData StartError) → OpensForm asked held out_of_memory
     unopened (Ok form) = inr (is_empty, refl)
     unopened (Err error) = (is_empty, inr refl)

@@ -13,7 +13,7 @@ use Rattle.decimal_lines.proofs.Parts.{output_of-nothing}
 use Rattle.talmuiga_c.specs.Asked.{mode_asked}
 use Rattle.talmuiga_c.specs.Endings.{EndsIn, IsFormatted, out_of_memory, status_of}
 use Rattle.talmuiga_c.specs.Handle.{empty}
-use Rattle.talmuiga_c.specs.declared.kept.Kept.{Kept}
+use Rattle.talmuiga_c.specs.declared.held.Held.{Held}
 use Rattle.talmuiga_c.specs.Kept.{OpensIn}
 use Rattle.talmuiga_c.proofs.Texts.{is_no_text}
 
@@ -68,7 +68,7 @@ module _ (words : WordsData) (tables : List ℕ) where
     refused-ends start.NoData text no_text = rw (asked-refused start.NoData text no_text) (record { same = refl; none = refl }, inl refl)
     refused-ends start.OutOfMemory text no_text = without_memory (mode_asked words tables)
 
-  module _ (held : Option (Option Kept)) (is_empty : held ≡ empty) where
+  module _ (held : Option (Option Held)) (is_empty : held ≡ empty) where
     unopened : (asked : Result Mode StartError) → OpensIn asked held out_of_memory
     unopened (Ok mode) = inr (is_empty, refl)
     unopened (Err error) = (is_empty, inr refl)

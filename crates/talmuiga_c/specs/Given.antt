@@ -1,5 +1,5 @@
 -- What calls that add values to arguments leave, by their status.
-use Rattle.std.specs.Prelude.{◌≡◌, ℕ, ◌⊎◌, List, Option, Some, None, Err}
+use Rattle.std.specs.Prelude.{◌≡◌, ℕ, ◌⊎◌, List, Option, Some, None}
 use Rattle.decimal_lines.specs.SingleText.{IsRefusal}
 use Rattle.decimal_lines.specs.declared.single_text.TextError.{TextError}
 use Rattle.kept_messages.specs.Arguments.{GivenData, with_text}

@@ -13,6 +13,7 @@ use Rattle.talmuiga_c.specs.Answers.{kept_events, kept_result}
 use Rattle.talmuiga_c.specs.Asked.{mode_asked}
 use Rattle.talmuiga_c.specs.Endings.{done, out_of_memory, output_too_small, status_of, words_refused}
 use Rattle.talmuiga_c.specs.Handle.{empty, holding}
+use Rattle.talmuiga_c.specs.declared.held.Held.{Held}
 use Rattle.talmuiga_c.specs.declared.kept.Kept.{Kept}
 use Rattle.talmuiga_c.specs.declared.kept.Kept.TheVariants.{ByWords}
 
@@ -34,12 +35,12 @@ text_status refusal.Overflow = overflow
 text_status refusal.OutOfMemory = out_of_memory
 
 -- the formatter has the mode that is asked for, or none
-abbrev pub OpensIn : Result Mode StartError → Option (Option Kept) → ℕ → Type 0
+abbrev pub OpensIn : Result Mode StartError → Option (Option Held) → ℕ → Type 0
 OpensIn (Ok mode) held status = ((held ≡ holding (ByWords mode)) × (status ≡ done)) ⊎ ((held ≡ empty) × (status ≡ out_of_memory))
 OpensIn (Err error) held status = (held ≡ empty) × ((status ≡ status_of error) ⊎ (status ≡ out_of_memory))
 
 -- by the arguments; others are rejected, and nothing else comes in place of it
-abbrev pub Opens : Option WordsData → List ℕ → Option (Option Kept) → ℕ → Type 0
+abbrev pub Opens : Option WordsData → List ℕ → Option (Option Held) → ℕ → Type 0
 Opens None tables held status = (held ≡ empty) × (status ≡ words_refused)
 Opens (Some words) tables held status = OpensIn (mode_asked words tables) held status
 

@@ -20,26 +20,27 @@ use Rattle.talmuiga_c.specs.Patterns.{no_pattern, pattern_asked, pattern_status}
 use Rattle.talmuiga_c.specs.SkeletonFaults.{no_fault}
 use Rattle.talmuiga_c.specs.Skeletons.{IsPut, form_asked, form_status, settings_asked}
 use Rattle.talmuiga_c.specs.declared.fault.Fault.{Fault}
+use Rattle.talmuiga_c.specs.declared.held.Held.{Held}
 use Rattle.talmuiga_c.specs.declared.kept.Kept.{Kept}
 use Rattle.talmuiga_c.specs.declared.kept.Kept.TheVariants.{ByWords, BySkeleton, WithRanges}
 use Rattle.talmuiga_c.specs.declared.skeletons.Rejected.{Rejected}
 
 -- The formatter has the form and the range pattern that are asked for, or nothing. The form is judged first, and then the pattern; out
 -- of memory may come in place of each.
-abbrev pub OpensBoth : Result FormData StartError → Result Separator StartError → Option (Option Kept) → ℕ → Type 0
+abbrev pub OpensBoth : Result FormData StartError → Result Separator StartError → Option (Option Held) → ℕ → Type 0
 OpensBoth (Ok form) (Ok pattern) held status =
     ((held ≡ holding (WithRanges form pattern)) × (status ≡ done)) ⊎ ((held ≡ empty) × (status ≡ out_of_memory))
 OpensBoth (Ok form) (Err error) held status = (held ≡ empty) × ((status ≡ pattern_status error) ⊎ (status ≡ out_of_memory))
 OpensBoth (Err error) pattern held status = (held ≡ empty) × ((status ≡ form_status error) ⊎ (status ≡ out_of_memory))
 
 -- by what is asked for: where nothing is, nothing else comes in place of its status, and else there is no fault
-abbrev pub OpensRangesAsked : Result FormSettings Rejected → List ℕ → Option (Option Kept) → Fault → ℕ → Type 0
+abbrev pub OpensRangesAsked : Result FormSettings Rejected → List ℕ → Option (Option Held) → Fault → ℕ → Type 0
 OpensRangesAsked (Ok settings) tables held fault status =
     (fault ≡ no_fault) × OpensBoth (form_asked settings tables) (pattern_asked settings tables) held status
 OpensRangesAsked (Err rejected) tables held fault status = (held ≡ empty) × ((fault ≡ rejected.fault) × (status ≡ rejected.status))
 
 -- by the bytes of a locale and of a skeleton
-abbrev pub OpensRanges : List ℕ → List ℕ → List ℕ → Option (Option Kept) → Fault → ℕ → Type 0
+abbrev pub OpensRanges : List ℕ → List ℕ → List ℕ → Option (Option Held) → Fault → ℕ → Type 0
 OpensRanges locale skeleton tables held fault status = OpensRangesAsked (settings_asked locale skeleton) tables held fault status
 
 -- the formatter writes numbers with a unit or with the name of a currency, which have no ranges

@@ -25,7 +25,7 @@ use Rattle.talmuiga_c.specs.Handle.{empty, holding}
 use Rattle.talmuiga_c.specs.Patterns.{pattern_asked}
 use Rattle.talmuiga_c.specs.SkeletonFaults.{fault_of, no_fault, not_utf8_at, unsupported_fault}
 use Rattle.talmuiga_c.specs.declared.fault.Fault.{Fault}
-use Rattle.talmuiga_c.specs.declared.kept.Kept.{Kept}
+use Rattle.talmuiga_c.specs.declared.held.Held.{Held}
 use Rattle.talmuiga_c.specs.declared.kept.Kept.TheVariants.{BySkeleton}
 use Rattle.talmuiga_c.specs.declared.skeletons.Rejected.{Rejected}
 
@@ -116,17 +116,17 @@ form_status start.NoData = no_data
 form_status start.OutOfMemory = out_of_memory
 
 -- the formatter has the form that is asked for, or nothing
-abbrev pub OpensForm : Result FormData StartError → Option (Option Kept) → ℕ → Type 0
+abbrev pub OpensForm : Result FormData StartError → Option (Option Held) → ℕ → Type 0
 OpensForm (Ok form) held status = ((held ≡ holding (BySkeleton form)) × (status ≡ done)) ⊎ ((held ≡ empty) × (status ≡ out_of_memory))
 OpensForm (Err error) held status = (held ≡ empty) × ((status ≡ form_status error) ⊎ (status ≡ out_of_memory))
 
 -- by what is asked for: where nothing is, nothing else comes in place of its status, and else there is no fault
-abbrev pub OpensAsked : Result FormSettings Rejected → List ℕ → Option (Option Kept) → Fault → ℕ → Type 0
+abbrev pub OpensAsked : Result FormSettings Rejected → List ℕ → Option (Option Held) → Fault → ℕ → Type 0
 OpensAsked (Ok settings) tables held fault status = (fault ≡ no_fault) × OpensForm (form_asked settings tables) held status
 OpensAsked (Err rejected) tables held fault status = (held ≡ empty) × ((fault ≡ rejected.fault) × (status ≡ rejected.status))
 
 -- by the bytes of a locale and of a skeleton
-abbrev pub OpensSkeleton : List ℕ → List ℕ → List ℕ → Option (Option Kept) → Fault → ℕ → Type 0
+abbrev pub OpensSkeleton : List ℕ → List ℕ → List ℕ → Option (Option Held) → Fault → ℕ → Type 0
 OpensSkeleton locale skeleton tables held fault status = OpensAsked (settings_asked locale skeleton) tables held fault status
 
 -- an output holds a text if it has room, and the length is returned

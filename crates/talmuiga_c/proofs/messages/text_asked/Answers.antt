@@ -1,5 +1,4 @@
-use Rattle.std.proofs.Common.{sym, ap, ◌∙◌}
-use Rattle.std.specs.Prelude.{Result, Ok}
+use Rattle.std.proofs.Common.{sym}
 use Rattle.talmuiga_c.proofs.Asking.{asked-no_text, asked-text}
 use Rattle.talmuiga_c.proofs.messages.text_asked.Goals as goal
 

@@ -32,8 +32,10 @@ stayed = (stay_ref (0 ∷ []) tt (plain (λ _. R)), (stay_dropped _ yes, tt))
 pub hold_spec : {M : Type 1} → statement M
 hold_spec 𝓤 𝓛 𝓜 𝓡 wired =
     let c = f.clauses 𝓛 𝓜.mem 𝓡.returns in let W = walk_of 𝓛 f.ended stayed c in let 𝓣 = tables 𝓤 𝓛.H 𝓜 𝓡 𝓡.env in
-    proved_at 𝓛 f.ended stayed c 𝓜 𝓡 (Goes-ref 𝓛 1 0 tt (plain (λ _. R)),
-    (told-nothing 𝓛 1 (plain (λ _. HeldRow)) yes (λ κs. held-Mute), tt))
+    proved_at 𝓛 f.ended stayed c 𝓜 𝓡 (
+      Goes-ref 𝓛 1 0 tt (plain (λ _. R)),
+      (told-nothing 𝓛 1 (plain (λ _. HeldRow)) yes (λ κs. held-Mute), tt),
+    )
     f.Key.name code.function (code.unfolded 𝓤 𝓛.H 𝓜 𝓡 wired)
     (λ y are.
     let κs = y.0.0 in let qs = y.0.1 in let a = y.0.3 in let vs = y.0.4.0 in let ms = y.0.4.1.0 in
