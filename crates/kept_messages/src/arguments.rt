@@ -65,8 +65,6 @@ impl Arguments {
     }
 
     /// Leaves no arguments.
-    // promise: A cleared list has no arguments.
-    // mutations: clear_leaves_arguments
     pub fn clear(&mut self)
         ensures { self.new ≡ [] }
     {
@@ -84,8 +82,6 @@ impl Arguments {
     }
 
     /// Adds a text. Of two values of one name the first counts.
-    // promise: The list grows by a text with its name, or stays.
-    // mutations: push_text_names_itself
     pub fn push_text(&mut self, alloc: Global, name: &str, text: &str) -> Result<(), AllocError>
         ensures added { OnOk result (self.new ≡ with_text self.old name.now text.now) }
         ensures unchanged { OnErr result (self.new ≡ self.old) }
@@ -119,8 +115,6 @@ impl Arguments {
 
     /// Adds the number of a text as a form shows it, for the places `{NAME, number, ::SKELETON}`
     /// alone. The form has to be that of the skeleton, which this call doesn't read.
-    // promise: A number of a place is kept with its skeleton.
-    // mutations: push_form_with_its_name_as_skeleton
     pub fn push_form(
         &mut self,
         alloc: Global,

@@ -128,8 +128,6 @@ impl LocaleMessage {
 
     /// The place with a form of its own at an index, if there are so many: `{NAME, number}` or
     /// `{NAME, number, ::SKELETON}`, from 0 on in the order in which they stand in the text.
-    // promise: Places with forms stand in the order of the text.
-    // mutations: place_with_its_name_as_skeleton
     pub fn place(&self, index: usize) -> Option<Place>
         ensures { result ≡ place_from index self.now.message.pieces }
     {

@@ -13,7 +13,6 @@ use kept_messages::Arguments;
 use std::alloc::Global;
 
 /// Opens arguments, of which there are none.
-// promise: Arguments are opened without values.
 #[unsafe(no_mangle)]
 pub extern "C" fn talmuiga_arguments_open_sized(alloc: Global, arguments: &mut Room)
     requires empty { arguments.old.held ≡ empty }
@@ -70,8 +69,6 @@ pub extern "C" fn talmuiga_arguments_number_sized(
 }
 
 /// Adds a number to arguments, as a formatter writes it, for the places of a skeleton alone.
-// promise: A number of a place is added with its skeleton.
-// mutations: arguments_form_with_its_name_as_skeleton
 #[unsafe(no_mangle)]
 pub extern "C" fn talmuiga_arguments_form_sized(
     alloc: Global,
@@ -98,8 +95,6 @@ pub extern "C" fn talmuiga_arguments_form_sized(
 }
 
 /// Leaves no values in arguments.
-// promise: Cleared arguments have no values.
-// mutations: arguments_cleared_are_unchanged
 #[unsafe(no_mangle)]
 pub extern "C" fn talmuiga_arguments_clear_sized(arguments: &mut Room)
     ghost given: { List GivenData }
@@ -112,8 +107,6 @@ pub extern "C" fn talmuiga_arguments_clear_sized(arguments: &mut Room)
 }
 
 /// Closes arguments that are open; their room is room again.
-// promise: The room of closed arguments is free again.
-// mutations: arguments_closed_with_their_values_inside
 #[unsafe(no_mangle)]
 pub extern "C" fn talmuiga_arguments_close_sized(arguments: &mut Room)
     ghost given: { List GivenData }

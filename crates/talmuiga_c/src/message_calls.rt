@@ -39,8 +39,6 @@ pub extern "C" fn talmuiga_message_open_sized(
 
 /// Opens a message in English, without tables: by those of English that the library has. What is
 /// wrong with the text is set, or zeros.
-// promise: A text determines the English message, or none.
-// mutations: message_english_in_another_locale
 #[unsafe(no_mangle)]
 pub extern "C" fn talmuiga_message_open_english_sized(
     alloc: Global,
@@ -56,7 +54,7 @@ pub extern "C" fn talmuiga_message_open_english_sized(
 }
 
 /// Sets where the place with a form of its own at an index has its name and its skeleton.
-// promise: Places with forms are told in the order of the text.
+// promise: Places with forms come in the order of the text.
 // mutations: message_place_behind_the_asked_one
 #[unsafe(no_mangle)]
 pub extern "C" fn talmuiga_message_place_sized(
@@ -76,7 +74,7 @@ pub extern "C" fn talmuiga_message_place_sized(
 }
 
 /// Sets where the name at an index stands first, and what is asked of its argument.
-// promise: Names are told with their kinds, each once.
+// promise: Names come with their kinds, each once.
 // mutations: message_name_of_another_kind
 #[unsafe(no_mangle)]
 pub extern "C" fn talmuiga_message_name_sized(
@@ -134,8 +132,6 @@ pub extern "C" fn talmuiga_message_write_sized(
 }
 
 /// Closes a message that is open; its room is room again.
-// promise: The room of a closed message is free again.
-// mutations: message_closed_with_its_text_inside
 #[unsafe(no_mangle)]
 pub extern "C" fn talmuiga_message_close_sized(message: &mut Room)
     ghost opened: { MessageData }
