@@ -40,6 +40,7 @@ use clap::ArgMatches;
 use command::{command, given};
 use headings::heading_of;
 use icu_provider::DataLocale;
+use locnum_lines::LineSettings;
 use locnum_options::{Environment, Explain, Given, OptionFault, Options, parse_options};
 use lone_locale::locale_of_tables;
 use message_given::source_given;
@@ -247,6 +248,14 @@ fn list_asked(
     }
 }
 
+/// Rejects names of columns beside numbers as arguments.
+fn reject_names(matches: &ArgMatches<'_>, lines: &LineSettings) -> Result<(), Failure> {
+    if !lines.names.is_empty() && matches.contains_id("number") {
+        return Err(Failure::Names);
+    }
+    Ok(())
+}
+
 /// Runs what is asked for, or lists it, by the tables of the arguments or else these; the status.
 fn run_options(
     rt: &HostRuntime,
@@ -255,9 +264,7 @@ fn run_options(
     tables: Option<&str>,
 ) -> Result<u8, Failure> {
     let columns = columns_given(matches, &options.lines)?;
-    if !options.lines.names.is_empty() && matches.contains_id("number") {
-        return Err(Failure::Names);
-    }
+    reject_names(matches, &options.lines)?;
     let path = matches.get_str("tables").or(tables);
     let read = read_tables(rt, path, options.settings.locale.as_str())?;
     let file = TablesFile {
