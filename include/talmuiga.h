@@ -46,22 +46,21 @@ enum {
 /* How a call with ranges ends besides. */
 enum {
     TALMUIGA_NO_PATTERN = 10,          /* the tables have no range pattern for the locale, or the formatter was opened without */
-    TALMUIGA_NO_RANGES = 11,           /* numbers with a unit or with the name of a currency have no ranges */
-    TALMUIGA_DESCENDING = 12,          /* the start is above the end */
-    TALMUIGA_END_NOT_DECIMAL = 13,     /* the text of the end isn't a decimal */
-    TALMUIGA_END_TOO_MANY_DIGITS = 14, /* it has a digit at a power of ten past the limits */
-    TALMUIGA_END_OVERFLOW = 15         /* the number to show for it has a digit at a power of ten past the limits */
+    TALMUIGA_DESCENDING = 11,          /* the start is above the end */
+    TALMUIGA_END_NOT_DECIMAL = 12,     /* the text of the end isn't a decimal */
+    TALMUIGA_END_TOO_MANY_DIGITS = 13, /* it has a digit at a power of ten past the limits */
+    TALMUIGA_END_OVERFLOW = 14         /* the number to show for it has a digit at a power of ten past the limits */
 };
 
 /* How a call with messages ends besides. */
 enum {
-    TALMUIGA_MESSAGE_REFUSED = 16,  /* the text isn't a message */
-    TALMUIGA_MISSING_ARGUMENT = 17, /* an argument isn't given, or not in the form of its place */
-    TALMUIGA_NOT_A_NUMBER = 18,     /* a text is given where the message wants a number */
-    TALMUIGA_NOT_A_TEXT = 19,       /* a number is given where the message picks by a text */
-    TALMUIGA_NOT_UTF8 = 20,         /* a name, a text or a skeleton isn't UTF-8 */
-    TALMUIGA_NO_FORM = 21,          /* the formatter was opened without a skeleton */
-    TALMUIGA_NO_SUCH_PLACE = 22     /* the message has fewer places or names */
+    TALMUIGA_MESSAGE_REFUSED = 15,  /* the text isn't a message */
+    TALMUIGA_MISSING_ARGUMENT = 16, /* an argument isn't given, or not in the form of its place */
+    TALMUIGA_NOT_A_NUMBER = 17,     /* a text is given where the message wants a number */
+    TALMUIGA_NOT_A_TEXT = 18,       /* a number is given where the message picks by a text */
+    TALMUIGA_NOT_UTF8 = 19,         /* a name, a text or a skeleton isn't UTF-8 */
+    TALMUIGA_NO_FORM = 20,          /* the formatter was opened without a skeleton */
+    TALMUIGA_NO_SUCH_PLACE = 21     /* the message has fewer places or names */
 };
 
 /* Formats the lines of the input in plain English, as 1,234.5.
@@ -281,7 +280,8 @@ uint32_t talmuiga_formatter_parts_sized(talmuiga_formatter *formatter, const uin
                                         size_t spans_len, size_t *count);
 
 /* Opens a formatter that writes ranges too, by tables, a locale and a number skeleton. The locale's range pattern is read once, here,
- * under the tables' key `ranges`; the functions above take the formatter as they take any other.
+ * under the tables' key `ranges`, and so are its plural categories of ranges under `plural_ranges`: a locale that has none there has the
+ * category `other` for each range. The functions above take the formatter as they take any other.
  *
  * Statuses and faults are those of talmuiga_formatter_open_skeleton_sized. Then the tables' ranges are judged, and with
  * TALMUIGA_TABLES_REFUSED they have a fault, with TALMUIGA_NO_PATTERN no range pattern for the locale: then the formatter isn't open, and
@@ -295,13 +295,13 @@ uint32_t talmuiga_formatter_open_english_ranges_sized(const uint8_t *skeleton, s
                                                       talmuiga_formatter *formatter);
 
 /* Writes the range of two numbers, as 3–5 or $3.00 – $5.00: each is a decimal and nothing else, and the locale's separator stands between
- * their texts. Equal texts are written once. The numbers are compared before they are rounded, -0 is 0, and 1.0 is 1.
+ * their texts. A unit and the name of a currency stand once, in the pattern of the range's plural category, as in 0–1 kilometers. One of
+ * two equal texts is written, with the approximately sign, as ~3. The numbers are compared before they are rounded, -0 is 0, and 1.0 is 1.
  *
  * With TALMUIGA_DONE the first *length bytes of the output are the text of the range. With TALMUIGA_OUTPUT_TOO_SMALL the output is as it
  * was, and *length says how long the text is. With each other status the output is as it was and *length is 0. It is, of those that apply,
  * the first of this list, but TALMUIGA_OUT_OF_MEMORY may come in place of all but the first:
  * - TALMUIGA_NO_PATTERN: the formatter was opened by neither of the two functions above;
- * - TALMUIGA_NO_RANGES;
  * - TALMUIGA_NOT_DECIMAL, TALMUIGA_TOO_MANY_DIGITS and TALMUIGA_OVERFLOW, of the start;
  * - TALMUIGA_END_NOT_DECIMAL, TALMUIGA_END_TOO_MANY_DIGITS and TALMUIGA_END_OVERFLOW, of the end;
  * - TALMUIGA_DESCENDING;
@@ -492,7 +492,6 @@ static inline const char *talmuiga_status_text(uint32_t status) {
         case TALMUIGA_OVERFLOW: return "overflow";
         case TALMUIGA_SKELETON_REFUSED: return "skeleton refused";
         case TALMUIGA_NO_PATTERN: return "no range pattern";
-        case TALMUIGA_NO_RANGES: return "no ranges of numbers with a unit or a name";
         case TALMUIGA_DESCENDING: return "the start is above the end";
         case TALMUIGA_END_NOT_DECIMAL: return "the end: not a decimal";
         case TALMUIGA_END_TOO_MANY_DIGITS: return "the end: too many digits";

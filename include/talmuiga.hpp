@@ -36,17 +36,24 @@ private:
     std::uint32_t status_;
 };
 
-/* A number skeleton with a fault: what() has the fault in words, kind() is one of TALMUIGA_FAULT_NOT_UTF8 and so on, and byte()
- * is where it stands. */
-class skeleton_refused : public refused {
+/* A text with a fault: what() has the fault in words, kind() is its number, and byte() is where it stands. */
+class text_refused : public refused {
 public:
-    explicit skeleton_refused(const talmuiga_fault &fault)
-        : refused(TALMUIGA_SKELETON_REFUSED, talmuiga_fault_text(&fault)), fault_(fault) {}
     std::uint32_t kind() const noexcept { return fault_.kind; }
     std::size_t byte() const noexcept { return fault_.byte; }
 
+protected:
+    text_refused(std::uint32_t status, const char *words, const talmuiga_fault &fault) : refused(status, words), fault_(fault) {}
+
 private:
     talmuiga_fault fault_;
+};
+
+/* A number skeleton with a fault: kind() is one of TALMUIGA_FAULT_NOT_UTF8 and so on. */
+class skeleton_refused : public text_refused {
+public:
+    explicit skeleton_refused(const talmuiga_fault &fault)
+        : text_refused(TALMUIGA_SKELETON_REFUSED, talmuiga_fault_text(&fault), fault) {}
 };
 
 /* The text of a number skeleton, as "currency/EUR" or "compact-short". */
@@ -271,17 +278,11 @@ private:
     std::unique_ptr<talmuiga_formatter, close> held_;
 };
 
-/* A text that is no message: what() has the fault in words, kind() is one of TALMUIGA_MESSAGE_FAULT_NOT_UTF8 and so on, and byte() is where
- * it stands. */
-class message_refused : public refused {
+/* A text that is no message: kind() is one of TALMUIGA_MESSAGE_FAULT_NOT_UTF8 and so on. */
+class message_refused : public text_refused {
 public:
     explicit message_refused(const talmuiga_fault &fault)
-        : refused(TALMUIGA_MESSAGE_REFUSED, talmuiga_message_fault_text(&fault)), fault_(fault) {}
-    std::uint32_t kind() const noexcept { return fault_.kind; }
-    std::size_t byte() const noexcept { return fault_.byte; }
-
-private:
-    talmuiga_fault fault_;
+        : text_refused(TALMUIGA_MESSAGE_REFUSED, talmuiga_message_fault_text(&fault), fault) {}
 };
 
 /* A message isn't written: name() is that of an argument, and status() says why, as TALMUIGA_MISSING_ARGUMENT. */

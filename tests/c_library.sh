@@ -35,8 +35,9 @@ build_after_ci() {
     for library in "$root"/crates/*/out/rlib; do
         words+=(-L "dependency=$library")
     done
-    for name in decimal_lines icu_decimal icu_decimal_options icu_message icu_provider icu_range_tables icu_ranges icu_table_entries \
-        icu_tables kept_messages number_forms number_ranges number_skeleton skeleton_settings writeable; do
+    for name in decimal_lines icu_decimal icu_decimal_options icu_message icu_plurals icu_provider icu_range_tables icu_ranges \
+        icu_table_entries icu_tables icu_unit_ranges kept_messages number_formatters number_forms number_ranges number_skeleton \
+        skeleton_settings writeable; do
         words+=(--extern "$name=$root/crates/$name/out/rlib/$name.rlib")
     done
     (cd crates/talmuiga_c && "$kit/bin/rattle" build --crate-name talmuiga_c src/lib.rt --crate-type staticlib \
@@ -340,11 +341,12 @@ if is_there "${compiler[0]}"; then
     judge 'C: parts of a number' "$folder/parts" "$sample"
     builds rows tests/c_rows.c "$folder/libtalmuiga.a" -O1 -g -fsanitize=address,undefined
     judge 'C: rows of single calls' "$folder/rows"
-    builds skeletons tests/c_skeletons.c "$folder/libtalmuiga.a" -O1 -g -fsanitize=address,undefined
+    builds skeletons tests/c_skeletons.c "$folder/libtalmuiga.a" -O1 -g -fsanitize=address,undefined -pthread
     judge 'C: rows of skeletons' "$folder/skeletons" tables/six_locales.json tables/english.json \
         crates/rows_reports/data/numbers.json
     builds ranges tests/c_ranges.c "$folder/libtalmuiga.a" -O1 -g -fsanitize=address,undefined -pthread
-    judge 'C: ranges' "$folder/ranges" tables/six_locales.json tables/english.json crates/rows_reports/data/numbers.json
+    judge 'C: ranges' "$folder/ranges" tables/six_locales.json tables/english.json crates/rows_reports/data/numbers.json \
+        crates/rows_ranges/data/ranges.json
     for sanitizer in address,undefined thread; do
         builds messages tests/c_messages.c "$folder/libtalmuiga.a" -O1 -g "-fsanitize=$sanitizer" -pthread
         judge "C: messages, with $sanitizer" "$folder/messages" crates/rows_messages/data/messages.json tables/english.json \
@@ -422,10 +424,14 @@ if is_there sqlite3 && [ -e /usr/include/sqlite3ext.h ]; then
     in_sql '1.234.567' "SELECT number_format(1234567, 'de', 'group-thousands')" tables/six_locales.json
     in_sql 'Error: stepping, not a decimal' "SELECT number_format('x', 'de', 'currency/EUR')" tables/six_locales.json
     in_sql 'Error: stepping, no data' "SELECT number_format(5, 'de', 'currency/USD')" tables/six_locales.json
-    # six locales with the range patterns of two
-    sed '$ s/}$/, "ranges": [{"locale": "en", "pattern": "{0}–{1}"}, {"locale": "de", "pattern": "{0}–{1}"}]}/' \
-        tables/six_locales.json >"$folder/ranges.json"
-    in_sql $'-5,00\u00a0€ – 1.650,00\u00a0€|3–5|3|900 – 2K||' "CREATE TABLE sales(price); INSERT INTO sales VALUES(1650),(NULL),(-5);
+    # six locales with the range patterns of three, and the categories of French
+    {
+        sed '$ s/}$/,/' tables/six_locales.json
+        printf '"ranges": [{"locale": "%s", "pattern": "{0}–{1}"}' en
+        printf ', {"locale": "%s", "pattern": "{0}–{1}"}' de fr
+        echo '], "plural_ranges": [{"locale": "fr", "ranges": [["one", "one", "one"]]}]}'
+    } >"$folder/ranges.json"
+    in_sql $'-5,00\u00a0€ – 1.650,00\u00a0€|3–5|~3|900 – 2K||' "CREATE TABLE sales(price); INSERT INTO sales VALUES(1650),(NULL),(-5);
         SELECT number_range_format(min(price), max(price), 'de', 'currency/EUR'), number_range_format(3, '5', 'en', ''),
         number_range_format(3, 3, 'en', ''), number_range_format(900, 2000, 'en', 'K'), number_range_format(3, NULL, 'en', ''),
         number_range_format(NULL, 'x', 'en', '') FROM sales" "$folder/ranges.json"
@@ -435,12 +441,16 @@ if is_there sqlite3 && [ -e /usr/include/sqlite3ext.h ]; then
     in_sql 'Error: stepping, not a decimal' "SELECT number_range_format('x', 'y', 'de', '')" "$folder/ranges.json"
     in_sql 'Error: stepping, the end: not a decimal' "SELECT number_range_format(3, 'y', 'de', '')" "$folder/ranges.json"
     in_sql 'Error: stepping, the end: not a decimal' "SELECT number_range_format(3, x'35', 'de', '')" "$folder/ranges.json"
-    in_sql 'Error: stepping, no range pattern' "SELECT number_range_format(3, 5, 'fr', '')" "$folder/ranges.json"
+    in_sql 'Error: stepping, no range pattern' "SELECT number_range_format(3, 5, 'ja', '')" "$folder/ranges.json"
     in_sql 'Error: stepping, no range pattern' "SELECT number_range_format(3, 5, 'de', '')" tables/six_locales.json
     in_sql 'Error: stepping, no data' "SELECT number_range_format(3, 5, 'xx', '')" "$folder/ranges.json"
     in_sql 'Error: stepping, skeleton: unknown stem, byte 2' "SELECT number_range_format(3, 5, 'de', '% foo')" "$folder/ranges.json"
-    in_sql 'Error: stepping, no ranges of numbers with a unit or a name' \
-        "SELECT number_range_format(3, 5, 'en', 'currency/EUR unit-width-full-name')" "$folder/ranges.json"
+    in_sql '1.00–2.00 euros|0,00–1,00 euro|0,00–2,00 euros' "SELECT
+        number_range_format(1, 2, 'en', 'currency/EUR unit-width-full-name'),
+        number_range_format(0, 1, 'fr', 'currency/EUR unit-width-full-name'),
+        number_range_format(0, 2, 'fr', 'currency/EUR unit-width-full-name')" "$folder/ranges.json"
+    in_sql '3–5 euros' \
+        "SELECT number_range_format(3, 5, 'en', 'K currency/EUR unit-width-full-name')" "$folder/ranges.json"
     in_sql $'1.234,5 Dateien 1.234,50\u00a0€|Ana: 1.000|1000|1 Datei|||x' "SELECT
         message_format('{n, plural, one{# Datei} other{# Dateien}} {n, number, ::currency/EUR}', 'de', 'n', 1234.5),
         message_format('{who}: {n}', 'de', 'who', 'Ana', 'n', 1000), message_format('{n}', 'de', 'n', '1000'),

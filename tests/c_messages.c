@@ -4,18 +4,13 @@
  * crates/rows_messages/data/messages.json, of nine locales, to which ordinal rules are added, of English with money, and of six locales.
  * Texts are those of ICU 72, as in crates/rows_messages/data/written.rows and tests/locnum_messages.sh, where locnum writes the same.
  * Faults and statuses are by hand. */
-#include "talmuiga.h"
+#define TEST "c_messages"
+#include "c_judging.h"
 
-#include <pthread.h>
-#include <stdio.h>
-
-enum { FILES = 4, MOST = 1 << 20, ROOM = 96, VALUES = 3, THREADS = 4 };
+enum { FILES = 4, VALUES = 3 };
 enum { NINE, ENGLISH, SIX, NO_ORDINALS };
 
-static struct {
-    char bytes[MOST];
-    size_t len;
-} files[FILES];
+static struct tables files[FILES];
 
 /* CLDR's ordinal rules of English and Welsh. */
 static const char ordinals[] =
@@ -23,23 +18,10 @@ static const char ordinals[] =
     "[\"few\",\"n % 10 = 3 and n % 100 != 13\"]]},{\"locale\":\"cy\",\"rules\":[[\"zero\",\"n = 0,7,8,9\"],[\"one\",\"n = 1\"],"
     "[\"two\",\"n = 2\"],[\"few\",\"n = 3,4\"],[\"many\",\"n = 5,6\"]]}]}";
 
-static int failed;
-
-static void judge(const char *what, const char *which, const char *why, int holds) {
-    if (!holds) {
-        fprintf(stderr, "c_messages: %s: %.70s: %s\n", what, which, why);
-        failed = 1;
-    }
-}
-
 /* The status of a message that is opened; the fault was something else before. */
 static uint32_t opened(int file, const char *locale, const char *text, talmuiga_fault *fault, talmuiga_message **message) {
     *fault = (talmuiga_fault){77, 78, 79};
     return talmuiga_message_open(files[file].bytes, files[file].len, locale, text, strlen(text), fault, message);
-}
-
-static int is_no_fault(const talmuiga_fault *fault) {
-    return fault->byte == 0 && fault->kind == TALMUIGA_MESSAGE_FAULT_NONE && fault->thing == 0;
 }
 
 #define FILES_EN "{n, plural, one{# file} other{# files}}"
@@ -105,19 +87,12 @@ static const struct {
 /* Opened by its text, it is written alike each time, in rooms of each length. */
 static void judge_rooms(size_t row, const talmuiga_message *message, const talmuiga_arguments *arguments) {
     const char *wanted = texts[row].text;
-    const size_t want = strlen(wanted);
-    for (size_t room = 0; room <= want + 1; room++) {
-        char output[ROOM];
-        size_t length = 99;
+    for (size_t room = 0; room <= strlen(wanted) + 1; room++) {
+        struct written it = unwritten();
         talmuiga_word name = {77, 78};
-        memset(output, 'x', ROOM);
-        uint32_t status = talmuiga_message_write(message, arguments, output, room, &length, &name);
-        judge("text", wanted, "its length", length == want);
+        it.status = talmuiga_message_write(message, arguments, it.room, room, &it.length, &name);
+        judge_room("text", wanted, wanted, room, &it);
         judge("text", wanted, "no name", name.start == 0 && name.end == 0);
-        judge("text", wanted, talmuiga_status_text(status),
-              status == (uint32_t)(want <= room ? TALMUIGA_DONE : TALMUIGA_OUTPUT_TOO_SMALL));
-        if (want <= room) judge("text", wanted, "itself", memcmp(output, wanted, want) == 0 && output[want] == 'x');
-        else judge("text", wanted, "a room that is too small", output[0] == 'x' && memcmp(output, output + 1, ROOM - 1) == 0);
     }
 }
 
@@ -128,8 +103,8 @@ static void judge_text(size_t row) {
     talmuiga_message *message;
     talmuiga_fault fault;
     talmuiga_arguments *arguments = talmuiga_arguments_open();
-    char output[ROOM];
-    size_t length = 99, count = 0;
+    struct written it = unwritten();
+    size_t count = 0;
     judge("text", wanted, "opened", opened(texts[row].file, locale, text, &fault, &message) == TALMUIGA_DONE);
     judge("text", wanted, "no fault", is_no_fault(&fault));
     if (!message || !arguments) return;
@@ -145,8 +120,8 @@ static void judge_text(size_t row) {
     }
     talmuiga_arguments_close(arguments);
     talmuiga_message_close(message);
-    uint32_t status = talmuiga_message_format(tables, tables_len, locale, text, texts[row].values, count, output, ROOM, &length, &fault);
-    judge("text", wanted, "in one call", status == TALMUIGA_DONE && length == strlen(wanted) && memcmp(output, wanted, length) == 0);
+    it.status = talmuiga_message_format(tables, tables_len, locale, text, texts[row].values, count, it.room, ROOM, &it.length, &fault);
+    judge("text", wanted, "in one call", is_text(&it, wanted));
     judge("text", wanted, "no fault in one call", is_no_fault(&fault));
 }
 
@@ -177,8 +152,7 @@ static void judge_faulty(size_t row) {
     talmuiga_formatter *formatter;
     talmuiga_fault fault;
     talmuiga_word name = {77, 78};
-    char output[ROOM];
-    size_t length = 99;
+    struct written it = unwritten();
     talmuiga_arguments *arguments = talmuiga_arguments_open();
     opened(NINE, "en", text, &fault, &message);
     talmuiga_formatter_open_skeleton(files[NINE].bytes, files[NINE].len, "en", "", 0, NULL, &formatter);
@@ -191,11 +165,10 @@ static void judge_faulty(size_t row) {
                               : talmuiga_arguments_text(arguments, value->name, value->text, strlen(value->text));
         judge("faulty", text, "a value", status == TALMUIGA_DONE);
     }
-    memset(output, 'x', ROOM);
-    uint32_t status = talmuiga_message_write(message, arguments, output, ROOM, &length, &name);
-    judge("faulty", text, talmuiga_status_text(status), status == faulty[row].status);
+    it.status = talmuiga_message_write(message, arguments, it.room, ROOM, &it.length, &name);
+    judge("faulty", text, talmuiga_status_text(it.status), it.status == faulty[row].status);
     judge("faulty", text, "its name", name.start == faulty[row].name.start && name.end == faulty[row].name.end);
-    judge("faulty", text, "nothing is written", length == 0 && output[0] == 'x' && memcmp(output, output + 1, ROOM - 1) == 0);
+    judge("faulty", text, "nothing is written", it.length == 0 && is_untouched(it.room, ROOM));
     talmuiga_formatter_close(formatter);
     talmuiga_message_close(message);
     talmuiga_arguments_close(arguments);
@@ -335,8 +308,7 @@ static void judge_values(void) {
     talmuiga_formatter *by_words, *by_skeleton, *for_ranges;
     talmuiga_message *message;
     talmuiga_arguments *arguments = talmuiga_arguments_open();
-    char output[ROOM];
-    size_t length;
+    struct written it = unwritten();
     static char nines[32769];
     memset(nines, '9', sizeof nines);
     talmuiga_formatter_open_english(&by_words);
@@ -362,18 +334,19 @@ static void judge_values(void) {
           talmuiga_arguments_number(arguments, by_skeleton, "n", nines, sizeof nines) == TALMUIGA_TOO_MANY_DIGITS);
     judge("values", "nines", "overflow",
           talmuiga_arguments_number(arguments, by_skeleton, "n", nines, sizeof nines - 1) == TALMUIGA_OVERFLOW);
-    judge("values", "none", "missing", talmuiga_message_write(message, arguments, output, ROOM, &length, NULL) == TALMUIGA_MISSING_ARGUMENT);
+    judge("values", "none", "missing",
+          talmuiga_message_write(message, arguments, it.room, ROOM, &it.length, NULL) == TALMUIGA_MISSING_ARGUMENT);
     judge("values", "a number", "added by a formatter for ranges",
           talmuiga_arguments_number(arguments, for_ranges, "n", "1234", 4) == TALMUIGA_DONE);
     judge("values", "a number", "its place is missing",
-          talmuiga_message_write(message, arguments, output, ROOM, &length, NULL) == TALMUIGA_MISSING_ARGUMENT);
+          talmuiga_message_write(message, arguments, it.room, ROOM, &it.length, NULL) == TALMUIGA_MISSING_ARGUMENT);
     judge("values", "a number", "added for its place",
           talmuiga_arguments_form(arguments, by_skeleton, "n", "%x100", 5, "0.5", 3) == TALMUIGA_DONE);
-    uint32_t status = talmuiga_message_write(message, arguments, output, ROOM, &length, NULL);
-    judge("values", "both", "written", status == TALMUIGA_DONE && length == 8 && memcmp(output, "1,23450%", 8) == 0);
+    it.status = talmuiga_message_write(message, arguments, it.room, ROOM, &it.length, NULL);
+    judge("values", "both", "written", is_text(&it, "1,23450%"));
     /* the formatters are as they were */
-    status = talmuiga_formatter_one(by_skeleton, "0.5", 3, output, ROOM, &length);
-    judge("values", "the formatter", "as it was", status == TALMUIGA_DONE && length == 3 && memcmp(output, "50%", 3) == 0);
+    it.status = talmuiga_formatter_one(by_skeleton, "0.5", 3, it.room, ROOM, &it.length);
+    judge("values", "the formatter", "as it was", is_text(&it, "50%"));
     talmuiga_formatter_close(by_words);
     talmuiga_formatter_close(by_skeleton);
     talmuiga_formatter_close(for_ranges);
@@ -412,8 +385,7 @@ static void judge_reuse(void) {
 /* English without tables. */
 static void judge_english(void) {
     static const char text[] = FILES_EN ", " PLACES_EN;
-    char output[ROOM];
-    size_t length;
+    struct written it = unwritten();
     talmuiga_message *message;
     talmuiga_formatter *formatter;
     talmuiga_arguments *arguments = talmuiga_arguments_open();
@@ -422,8 +394,8 @@ static void judge_english(void) {
     judge("English", text, "opened", arguments && message && formatter);
     if (!arguments || !message || !formatter) return;
     judge("English", text, "a number", talmuiga_arguments_number(arguments, formatter, "n", "1022", 4) == TALMUIGA_DONE);
-    uint32_t status = talmuiga_message_write(message, arguments, output, ROOM, &length, NULL);
-    judge("English", text, "written", status == TALMUIGA_DONE && length == 20 && memcmp(output, "1,022 files, 1,022nd", 20) == 0);
+    it.status = talmuiga_message_write(message, arguments, it.room, ROOM, &it.length, NULL);
+    judge("English", text, "written", is_text(&it, "1,022 files, 1,022nd"));
     talmuiga_formatter_close(formatter);
     talmuiga_message_close(message);
     talmuiga_arguments_close(arguments);
@@ -441,21 +413,22 @@ static void *writes_many(void *given) {
     talmuiga_arguments *arguments = talmuiga_arguments_open();
     void *ended = arguments ? given : NULL;
     for (int i = 0; ended && i < 1000; i++) {
-        char number[ROOM], wanted[ROOM], output[ROOM];
-        size_t length;
-        int len = snprintf(number, ROOM, "%d", i % 1000), want = snprintf(wanted, ROOM, i == 1 ? "%d file" : "%d files", i);
+        char number[ROOM], wanted[ROOM];
+        struct written it = unwritten();
+        int len = snprintf(number, ROOM, "%d", i);
+        snprintf(wanted, ROOM, i == 1 ? "%d file" : "%d files", i);
         talmuiga_arguments_clear(arguments);
-        uint32_t status = talmuiga_arguments_number(arguments, shared->formatter, "n", number, (size_t)len);
-        if (status == TALMUIGA_DONE) status = talmuiga_message_write(shared->message, arguments, output, ROOM, &length, NULL);
-        if (status != TALMUIGA_DONE || length != (size_t)want || memcmp(output, wanted, length) != 0) ended = NULL;
+        it.status = talmuiga_arguments_number(arguments, shared->formatter, "n", number, (size_t)len);
+        if (it.status == TALMUIGA_DONE) {
+            it.status = talmuiga_message_write(shared->message, arguments, it.room, ROOM, &it.length, NULL);
+        }
+        if (!is_text(&it, wanted)) ended = NULL;
     }
     talmuiga_arguments_close(arguments);
     return ended;
 }
 
 static void judge_threads(void) {
-    pthread_t threads[THREADS];
-    int started = 0;
     talmuiga_message *message;
     talmuiga_formatter *formatter;
     talmuiga_message_open_english(FILES_EN, sizeof FILES_EN - 1, NULL, &message);
@@ -463,40 +436,15 @@ static void judge_threads(void) {
     judge("threads", FILES_EN, "opened", message && formatter);
     if (!message || !formatter) return;
     struct shared shared = {message, formatter};
-    while (started < THREADS && !pthread_create(threads + started, NULL, writes_many, &shared)) started++;
-    judge("threads", FILES_EN, "started", started == THREADS);
-    for (int i = 0; i < started; i++) {
-        void *ended = NULL;
-        pthread_join(threads[i], &ended);
-        judge("threads", FILES_EN, "its texts", ended != NULL);
-    }
+    judge_in_threads(FILES_EN, writes_many, &shared);
     talmuiga_formatter_close(formatter);
     talmuiga_message_close(message);
 }
 
-/* Reads a file of tables, and adds ordinal rules to that of nine locales. */
-static int is_read(int at, const char *name) {
-    FILE *file = fopen(name, "rb");
-    if (!file) return 0;
-    size_t len = fread(files[at].bytes, 1, MOST / 2, file);
-    fclose(file);
-    if (at == NINE) {
-        while (len && files[at].bytes[len - 1] != '}') len--;
-        if (!len) return 0;
-        len--;
-        strcpy(files[at].bytes + len, ordinals);
-        len += strlen(ordinals);
-    }
-    files[at].len = len;
-    return 1;
-}
-
-#define ROWS(table) (sizeof(table) / sizeof(table)[0])
-
 int main(int count, char **words) {
     if (count < 4) return 2;
     for (int i = 0; i < FILES; i++) {
-        if (!is_read(i, words[i == NO_ORDINALS ? 1 : i + 1])) return 2;
+        if (!is_read(files + i, words[i == NO_ORDINALS ? 1 : i + 1], i == NINE ? ordinals : NULL)) return 2;
     }
     for (size_t row = 0; row < ROWS(texts); row++) judge_text(row);
     for (size_t row = 0; row < ROWS(faulty); row++) judge_faulty(row);

@@ -2,26 +2,13 @@
  * locale, skeleton and tables are judged; and skeletons of a megabyte. The words are three files of tables: of six locales, of
  * English with money, and of numbers with units. Texts are those of ICU 72 and parts those of UTS 35 Part 3; bytes of faults are
  * those of ICU's reader, where it has the fault. */
-#include "talmuiga.h"
+#define TEST "c_skeletons"
+#include "c_judging.h"
 
-#include <stdio.h>
-
-enum { FILES = 3, MOST = 1 << 20, ROOM = 64, SPANS = 8 };
+enum { FILES = 3, SPANS = 8 };
 enum { SIX, ENGLISH, UNITS };
 
-static struct {
-    char bytes[MOST];
-    size_t len;
-} files[FILES];
-
-static int failed;
-
-static void judge(const char *what, const char *which, const char *why, int holds) {
-    if (!holds) {
-        fprintf(stderr, "c_skeletons: %s: %.60s: %s\n", what, which, why);
-        failed = 1;
-    }
-}
+static struct tables files[FILES];
 
 static int is_fault(const talmuiga_fault *fault, size_t byte, uint32_t kind, uint32_t thing) {
     return fault->byte == byte && fault->kind == kind && fault->thing == thing;
@@ -79,7 +66,7 @@ static void judge_text(size_t row) {
     size_t length = 99, want = strlen(wanted);
     judge("text", skeleton, "opened",
           opened(texts[row].file, texts[row].locale, skeleton, strlen(skeleton), &fault, &formatter) == TALMUIGA_DONE);
-    judge("text", skeleton, "no fault", is_fault(&fault, 0, TALMUIGA_FAULT_NONE, 0));
+    judge("text", skeleton, "no fault", is_no_fault(&fault));
     if (!formatter) return;
     memset(output, 'x', ROOM);
     uint32_t status = talmuiga_formatter_one(formatter, texts[row].number, strlen(texts[row].number), output, want - 1, &length);
@@ -123,15 +110,14 @@ static void judge_parts(size_t row) {
     talmuiga_formatter *formatter;
     talmuiga_fault fault;
     talmuiga_span spans[SPANS];
-    char output[ROOM];
-    size_t length = 99, count = 99, want = strlen(marked[row].text);
+    struct written it = unwritten();
+    size_t count = 99;
     opened(marked[row].file, marked[row].locale, skeleton, strlen(skeleton), &fault, &formatter);
     judge("parts", skeleton, "opened", formatter != NULL);
     if (!formatter) return;
-    uint32_t status = talmuiga_formatter_parts(formatter, marked[row].number, strlen(marked[row].number), output, ROOM, &length,
-                                               spans, SPANS, &count);
-    judge("parts", skeleton, "the text",
-          status == TALMUIGA_DONE && length == want && memcmp(output, marked[row].text, want) == 0);
+    it.status = talmuiga_formatter_parts(formatter, marked[row].number, strlen(marked[row].number), it.room, ROOM, &it.length,
+                                         spans, SPANS, &count);
+    judge("parts", skeleton, "the text", is_text(&it, marked[row].text));
     judge("parts", skeleton, "their count", count == marked[row].count);
     for (size_t at = 0; at < marked[row].count && at < count; at++) {
         const talmuiga_span *span = &spans[at], *wanted = &marked[row].parts[at];
@@ -237,7 +223,7 @@ static void judge_order(size_t row) {
                                                        strlen(order[row].skeleton), &fault, &formatter);
     judge("order", order[row].skeleton, talmuiga_status_text(status), status == order[row].status && !formatter);
     judge("order", order[row].skeleton, "the fault",
-          status == TALMUIGA_SKELETON_REFUSED ? fault.kind != 0 : is_fault(&fault, 0, TALMUIGA_FAULT_NONE, 0));
+          status == TALMUIGA_SKELETON_REFUSED ? fault.kind != 0 : is_no_fault(&fault));
 }
 
 /* Canonical texts. */
@@ -260,18 +246,12 @@ static const struct {
 
 static void judge_canonical(size_t row) {
     const char *skeleton = canonical[row].skeleton, *wanted = canonical[row].text;
-    size_t want = strlen(wanted);
     for (size_t room = 0; room < ROOM; room++) {
-        char output[ROOM];
-        size_t length = 99;
+        struct written it = unwritten();
         talmuiga_fault fault = {77, 78, 79};
-        memset(output, 'x', ROOM);
-        uint32_t status = talmuiga_skeleton_canonical(skeleton, strlen(skeleton), output, room, &length, &fault);
-        judge("canonical", skeleton, "its length", length == want && is_fault(&fault, 0, TALMUIGA_FAULT_NONE, 0));
-        judge("canonical", skeleton, "its status",
-              status == (uint32_t)(want <= room ? TALMUIGA_DONE : TALMUIGA_OUTPUT_TOO_SMALL));
-        if (want <= room) judge("canonical", skeleton, "its text", memcmp(output, wanted, want) == 0 && output[want] == 'x');
-        else judge("canonical", skeleton, "a room that is too small", output[0] == 'x');
+        it.status = talmuiga_skeleton_canonical(skeleton, strlen(skeleton), it.room, room, &it.length, &fault);
+        judge_room("canonical", skeleton, wanted, room, &it);
+        judge("canonical", skeleton, "no fault", is_no_fault(&fault));
     }
 }
 
@@ -301,16 +281,12 @@ static void judge_english(size_t row) {
     const char *skeleton = english[row].skeleton;
     talmuiga_formatter *formatter;
     talmuiga_fault fault = {77, 78, 79};
-    char output[ROOM];
-    size_t length = 99;
+    struct written it = unwritten();
     uint32_t status = talmuiga_formatter_open_english_skeleton(skeleton, strlen(skeleton), &fault, &formatter);
-    judge("English", skeleton, talmuiga_status_text(status), status == english[row].status);
-    judge("English", skeleton, "its fault",
-          status == TALMUIGA_SKELETON_REFUSED ? fault.byte == 8 && fault.kind : is_fault(&fault, 0, TALMUIGA_FAULT_NONE, 0));
+    judge_opened("English", skeleton, status, english[row].status, &fault, 8);
     if (!formatter) return;
-    status = talmuiga_formatter_one(formatter, english[row].number, strlen(english[row].number), output, ROOM, &length);
-    judge("English", skeleton, "its text",
-          status == TALMUIGA_DONE && length == strlen(english[row].text) && memcmp(output, english[row].text, length) == 0);
+    it.status = talmuiga_formatter_one(formatter, english[row].number, strlen(english[row].number), it.room, ROOM, &it.length);
+    judge("English", skeleton, "its text", is_text(&it, english[row].text));
     talmuiga_formatter_close(formatter);
 }
 
@@ -341,14 +317,9 @@ static void judge_longest(size_t row) {
     talmuiga_formatter_close(formatter);
 }
 
-#define ROWS(table) (sizeof(table) / sizeof(table)[0])
-
 int main(int count, char **words) {
     for (int i = 0; i < FILES; i++) {
-        FILE *file = count > FILES ? fopen(words[i + 1], "rb") : NULL;
-        if (!file) return 2;
-        files[i].len = fread(files[i].bytes, 1, MOST, file);
-        fclose(file);
+        if (count <= FILES || !is_read(files + i, words[i + 1], NULL)) return 2;
     }
     for (size_t row = 0; row < ROWS(texts); row++) judge_text(row);
     for (size_t row = 0; row < ROWS(marked); row++) judge_parts(row);

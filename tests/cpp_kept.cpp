@@ -28,12 +28,12 @@ template <class Call> static std::uint32_t refusal(Call call) {
     }
 }
 
-/* The byte and the kind of a skeleton's fault, and its words. */
-template <class Call> static std::string fault_of(Call call) {
+/* The byte and the kind of the fault of a skeleton or of another text, and its words. */
+template <class Refused = talmuiga::skeleton_refused, class Call> static std::string fault_of(Call call) {
     try {
         call();
         return "none";
-    } catch (const talmuiga::skeleton_refused &error) {
+    } catch (const Refused &error) {
         return std::to_string(error.byte()) + ' ' + std::to_string(error.kind()) + ' ' + error.what();
     }
 }
@@ -45,16 +45,6 @@ static std::string bracketed(const talmuiga::marked_text &marked) {
     for (const talmuiga_span &part : marked.parts)
         out << ' ' << part.part << '[' << marked.text.substr(part.start, part.end - part.start) << ']';
     return out.str();
-}
-
-/* Why a text is no message: byte, kind and words. */
-template <class Call> static std::string message_fault_of(Call call) {
-    try {
-        call();
-        return "none";
-    } catch (const talmuiga::message_refused &error) {
-        return std::to_string(error.byte()) + ' ' + std::to_string(error.kind()) + ' ' + error.what();
-    }
 }
 
 /* Why a message isn't written: the name of an argument, and the status in words. */
@@ -71,6 +61,7 @@ template <class Call> static std::string argument_of(Call call) {
 static void as_messages(const std::string &tables) {
     using talmuiga::decimal;
     using talmuiga::message;
+    using talmuiga::message_refused;
     const message files("{n, plural, =0{no files} one{# file} other{# files}}"),
         places("{n, selectordinal, one{#st} two{#nd} few{#rd} other{#th}}"),
         forms("{n, number, ::.00} ({n, number, ::compact-short}), {n}, {who}, {n, number, ::.00}"),
@@ -91,10 +82,10 @@ static void as_messages(const std::string &tables) {
     judge("by tables, and moved", moved({{"n", 1234.5}}) == "1.234,5 Dateien 1.234,50\u00a0€");
     judge("a text in a locale without numbers", message(tables, "xx", "{who}")({{"who", "Ana"}}) == "Ana");
     judge("a number there", argument_of([&] { message(tables, "xx", "{who}")({{"who", 1}}); }) == "who: no data");
-    judge("a fault", message_fault_of([] { message("{n, plural, one{x}}"); }) == "18 15 no `other`");
-    judge("a fault by tables", message_fault_of([&] { message(tables, "de", "{n}}"); }) == "3 4 the brace closes nothing");
-    judge("a fault of a skeleton", message_fault_of([] { message("{n, number, ::scientific}"); }) == "14 10 left out");
-    judge("not UTF-8", message_fault_of([] { message("a\xff"); }) == "1 1 not UTF-8");
+    judge("a fault", fault_of<message_refused>([] { message("{n, plural, one{x}}"); }) == "18 15 no `other`");
+    judge("a fault by tables", fault_of<message_refused>([&] { message(tables, "de", "{n}}"); }) == "3 4 the brace closes nothing");
+    judge("a fault of a skeleton", fault_of<message_refused>([] { message("{n, number, ::scientific}"); }) == "14 10 left out");
+    judge("not UTF-8", fault_of<message_refused>([] { message("a\xff"); }) == "1 1 not UTF-8");
     judge("refused", refusal([&] { message(tables, "e_n", "x"); }) == TALMUIGA_WORDS_REFUSED &&
                          refusal([&] { message("{", "en", "x"); }) == TALMUIGA_TABLES_REFUSED &&
                          refusal([&] { message(tables, "de", "{n, selectordinal, other{#}}"); }) == TALMUIGA_NO_DATA &&
@@ -120,13 +111,17 @@ static void as_messages(const std::string &tables) {
 static void as_ranges(const std::string &tables) {
     using talmuiga::skeleton;
     using talmuiga::with_ranges;
-    const std::string german = tables.substr(0, tables.rfind('}')) + ",\"ranges\":[{\"locale\":\"de\",\"pattern\":\"{0}–{1}\"}]}";
+    const std::string german = tables.substr(0, tables.rfind('}')) +
+                               ",\"ranges\":[{\"locale\":\"de\",\"pattern\":\"{0}–{1}\"},{\"locale\":\"fr\",\"pattern\":\"{0}–{1}\"}],"
+                               "\"plural_ranges\":[{\"locale\":\"fr\",\"ranges\":[[\"one\",\"one\",\"one\"]]}]}";
     talmuiga::formatter prices(german, "de", skeleton{"currency/EUR"}, with_ranges);
     const talmuiga::formatter plain(skeleton{""}, with_ranges), short_ones(skeleton{"K"}, with_ranges), without(skeleton{""});
     judge("a range", plain.range("3", "5") == "3–5" && plain.range("-3", "5") == "-3 – 5");
     judge("a range of prices", prices.range("3", "5") == "3,00–5,00\u00a0€" && prices("3") == "3,00\u00a0€");
+    talmuiga::formatter named(german, "fr", skeleton{"currency/EUR unit-width-full-name"}, with_ranges);
+    judge("a range with a name", named.range("0", "1") == "0,00–1,00 euro" && named.range("0", "2") == "0,00–2,00 euros");
     judge("a range of compact numbers", short_ones.range("900", "2000") == "900 – 2K");
-    judge("a range of equal texts", plain.range("3", "3.0") == "3");
+    judge("a range of equal texts", plain.range("3", "3.0") == "~3");
     const std::string many(3000, '9'), few(1500, '9');
     judge("a long range", plain.range(few, many) == plain(few) + "–" + plain(many));
     const auto written = [&](const char *start, const char *end) { return [&plain, start, end] { plain.range(start, end); }; };

@@ -12,7 +12,7 @@ table of locales, the commands by which it tries an installed program, and the m
   heading too; each reference is one of the page, and each of these is used; the name of a call, a definition or a mutation that is a link stands in the file that the link leads to.
 - The tables of docs/PROVED.md are made from the lines `// promise:` and `// mutations:` of the sources: each sentence has 60
   characters at most and stands above one call, each mutation is one of the repository's, each crate that has promises has a
-  heading, and the page has 500 lines at most, of 500 characters each apart from quotes.
+  heading, and the page has 620 lines at most, of 500 characters each apart from quotes.
 - docs/EDITS.md counts the must-fail mutations of each crate, and docs/MAP.md the files of specs/ and proofs/: both pages are
   made from these files, and each such file has a comment at its head.
 - The table of docs/TESTING.md that lists the files of rows is made from the comments at their heads.

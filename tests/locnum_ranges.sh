@@ -6,8 +6,12 @@
 writes '3\xe2\x80\x935\n-3 \xe2\x80\x93 5\n7\n' 3..5 -3..5 7
 writes '$3.00 \xe2\x80\x93 $5.00\n' --currency USD 3..5
 writes '3% \xe2\x80\x93 5%\n' --percent 0.03..0.05
-writes '1K \xe2\x80\x93 2K\n1.2M\n' --style short 1000..2000 1200000..1210000
+writes '1K \xe2\x80\x93 2K\n~1.2M\n' --style short 1000..2000 1200000..1210000
 writes '   3\xe2\x80\x935\n' --padding 6 3..5
+writes '~3\n~-3\n' 3..3 -3..-3
+writes '~-$3.00\n' --currency USD -3..-3
+writes '~3.00 US dollars\n' --currency USD --width name 3..3
+writes '    ~3\n' --padding 6 3..3
 writes '3\xe2\x80\x935   \n' --padding -6 3..5
 writes '1 \xe2\x80\x93 2 thousand\n1 thousand \xe2\x80\x93 2 thousand\n' --style long 1..2000 1000..2000
 judge_range() { # judge_range STATUS OUTPUT ERROR WORD..
@@ -21,7 +25,8 @@ judge_range 2 '1\n' 'locnum: word 2: x..3: the start: not a decimal' 1 x..3
 judge_range 2 '3..y\n1\n' 'locnum: word 1: 3..y: the end: not a decimal' --invalid fail 3..y 1
 judge_range 0 '5..3\n' '' --invalid ignore 5..3
 judge_range 0 '1.00\xe2\x80\x932.00 US dollars\n' '' --currency USD --width name 1..2
-judge_range 2 '' 'locnum: word 1: 1..2: no ranges of these numbers with a unit or a name' --style long --currency USD --width name 1..2
+judge_range 0 '1\xe2\x80\x932 US dollars\n' '' --style long --currency USD --width name 1..2
+judge_range 0 '1K \xe2\x80\x93 2K US dollars\n' '' --style short --currency USD --width name 1000..2000
 judge_range 2 '' 'locnum: word 1: 1..: not a decimal' 1..
 
 # ranges of two fields: each form of numbers
@@ -53,7 +58,7 @@ lines 0 '\xef\xbb\xbf3 5\n' "\xef\xbb\xbf3${dash}5\n" '' --range 1,2
 lines 0 '\xef\xbb\xbf' '\xef\xbb\xbf' '' --range 1,2
 lines 0 '' '' '' --range 1,2
 # one text where both are equal; a line that lacks a field goes through as it is
-lines 0 '3 3\n1200000 1210000\n' '3\n1.2M\n' '' --range 1,2 --style short
+lines 0 '3 3\n1200000 1210000\n' '~3\n~1.2M\n' '' --range 1,2 --style short
 lines 0 'a 3\n\na 3 5\n' "a 3\n\na 3${dash}5\n" '' --range 2,3
 lines 0 'a 3\n' 'a 3\n' 'locnum: no record has field 3' --range 2,3
 lines 0 '1000,2000\n' "1,000${dash}2,000\n" $'locnum: 1,000\xe2\x80\x932,000 holds the delimiter; --csv quotes it' -d , --range 1,2
@@ -76,8 +81,7 @@ lines 0 'x 3\n1 2\n' "x 3\n1${dash}2\n" '' --range 1,2 --invalid ignore
 lines 2 'low,high\n3,"y z"\n' 'low\n3,"y z"\n' 'locnum: line 2, field 1 (low) to field 2 (high): 3..y z: the end: not a decimal' \
     --csv --header --range low,high --invalid fail
 lines 2 '3;;\n' '' 'locnum: line 1, field 3 to field 1: (empty)..3: the start: not a decimal' -d ';' --range 3,1
-lines 2 '1 2\n' '' 'locnum: line 1, field 1 to field 2: 1..2: no ranges of these numbers with a unit or a name' \
-    --range 1,2 --style long --currency USD --width name
+lines 0 '1 2000000\n' "1 $dash 2 million US dollars\n" '' --range 1,2 --style long --currency USD --width name
 # large fields, and many lines
 zeros=$(printf '%0999d' 0)
 lines 0 "${zeros}3 ${zeros}5\n" "${zeros}3${dash}${zeros}5\n" '' --range 1,2 --grouping=never

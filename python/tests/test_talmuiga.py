@@ -19,7 +19,7 @@ from typing import Any
 
 import talmuiga
 import talmuiga.babel
-from talmuiga import (ArgumentRefused, Descending, Formatter, Message, MessageRefused, NoData, NoPattern, NoRanges, NotFormatted, Number,
+from talmuiga import (ArgumentRefused, Descending, Formatter, Message, MessageRefused, NoData, NoPattern, NotFormatted, Number,
                       SkeletonRefused, TablesRefused, WordsRefused)
 
 SAMPLE = open(sys.argv[1], "rb").read()
@@ -235,12 +235,15 @@ judge("a skeleton and a fraction in English", TypeError, lambda: Formatter.engli
 
 # Ranges, by texts of ICU 72; a compact end is written whole here, where ICU has 900–2K.
 RANGES = json.dumps({**json.loads(SIX), "ranges": [{"locale": locale, "pattern": pattern} for locale, pattern in (
-    ("en", "{0}–{1}"), ("de", "{0}–{1}"), ("ja", "{0}～{1}"))]}).encode()
+    ("en", "{0}–{1}"), ("de", "{0}–{1}"), ("fr", "{0}–{1}"), ("ja", "{0}～{1}"))],
+    "plural_ranges": [{"locale": "fr", "ranges": [["one", "one", "one"]]}]}).encode()
 RANGE_TEXTS: list[tuple[str, str, Number, Number, str]] = [
     ("en", "", 3, "5", "3–5"), ("en", "", -3, 5.0, "-3 – 5"), ("de", "", Decimal("1234.5"), 9999, "1.234,5–9.999"),
     ("ja", "", 1000, 2000, "1,000～2,000"), ("de", "currency/EUR", 3, 5, "3,00–5,00\u00a0€"), ("en", "K", 900, 2000, "900 – 2K"),
     ("de", "currency/EUR", -5, 3, "-5,00\u00a0€ – 3,00\u00a0€"), ("de", "%x100", "0.03", "0.05", "3–5\u00a0%"),
-    ("en", "", 3, "3.0", "3"), ("en", "precision-integer", "2.6", "3.4", "3")]
+    ("en", "", 3, "3.0", "~3"), ("en", "precision-integer", "2.6", "3.4", "~3"), ("en", "", -3, -3, "~-3"),
+    ("de", "currency/EUR unit-width-full-name", 1, 2, "1,00–2,00 Euro"), ("fr", "currency/EUR unit-width-full-name", 0, 1, "0,00–1,00 euro"),
+    ("fr", "currency/EUR unit-width-full-name", 0, 2, "0,00–2,00 euros")]
 for locale, skeleton, start, end, text in RANGE_TEXTS:
     judge(f"the range {text}", text, lambda: Formatter(RANGES, locale, skeleton=skeleton, ranges=True).format_range(start, end))
 AS_RANGES = Formatter.english(skeleton="currency/USD", ranges=True)
@@ -258,9 +261,11 @@ judge("a start of too many digits", (NotFormatted, 0, "9" * 70000, "too many dig
 judge("an end of too many digits", (NotFormatted, 1, "9" * 70000, "too many digits"), lambda: AS_RANGES.format_range(3, "9" * 70000))
 judge("an end that overflows", (NotFormatted, 1, "9" * 32768, "overflow"),
       lambda: Formatter.english(skeleton="K", ranges=True).format_range(3, "9" * 32768))
-judge("no ranges of names", NoRanges,
-      lambda: Formatter.english(skeleton="currency/USD unit-width-full-name", ranges=True).format_range(3, 5))
-judge("no pattern of a locale", NoPattern, lambda: Formatter(RANGES, "fr", skeleton="", ranges=True))
+judge("a range with a name in English", "1.00–2.00 US dollars",
+      lambda: Formatter.english(skeleton="currency/USD unit-width-full-name", ranges=True).format_range(1, 2))
+judge("a range of compact names", "1K – 2K US dollars",
+      lambda: Formatter.english(skeleton="K currency/USD unit-width-full-name", ranges=True).format_range(1000, 2000))
+judge("no pattern of a locale", NoPattern, lambda: Formatter(RANGES, "bn", skeleton="", ranges=True))
 judge("no patterns in the tables", NoPattern, lambda: Formatter(SIX, "de", skeleton="", ranges=True))
 judge("another locale for ranges", NoData, lambda: Formatter(RANGES, "xx", skeleton="", ranges=True))
 judge("a formatter without ranges", NoPattern, lambda: PRICES.format_range(3, 5))
@@ -273,8 +278,7 @@ judge("a fault in English for ranges", (SkeletonRefused, 0, "unknownStem", "unkn
       lambda: Formatter.english(skeleton="foo", ranges=True))
 judge("ranges without a skeleton", TypeError, lambda: Formatter(RANGES, "de", ranges=True))
 judge("English ranges without a skeleton", TypeError, lambda: Formatter.english(ranges=True))
-judge("exceptions of ranges", True, lambda: issubclass(NoPattern, talmuiga.Refused) and issubclass(Descending, ValueError)
-      and issubclass(NoRanges, ValueError))
+judge("exceptions of ranges", True, lambda: issubclass(NoPattern, talmuiga.Refused) and issubclass(Descending, ValueError))
 
 # Messages, by texts of ICU 72, and as the program locnum writes them.
 FILES_RU = "{n, plural, one{# файл} few{# файла} many{# файлов} other{# файла}}"

@@ -17,7 +17,7 @@ from pages.judging import found, judge, read
 PAGE = "docs/PROVED.md"
 HEADER = ["| promise | call | definition | mutation |", "|---|---|---|---|"]
 # How many characters a cell shows, how many a line of the page has, how many promises a call, how many lines the page.
-CELL, LINE, PER_CALL, LENGTH = 60, 500, 4, 580
+CELL, LINE, PER_CALL, LENGTH = 60, 500, 4, 620
 
 PROMISE, MUTATIONS = re.compile(r" *// promise: (\S.*)"), re.compile(r" *// mutations: (\S.*)")
 FUNCTION = re.compile(r' *(?:pub(?:\(\w+\))? )?(?:const )?(?:final )?(?:unsafe )?(?:extern "C" )?fn (\w+)')

@@ -2,7 +2,8 @@
 
 use fixed_decimal::Decimal;
 use icu_base::{
-    ASCII_DIGITS, PartsText, Pattern, PluralCategory, PluralElements, PluralRules, Writeable,
+    ASCII_DIGITS, PartsText, Pattern, PluralCategory, PluralElements, PluralRules,
+    SinglePlaceholder, Writeable,
 };
 use icu_decimal::options::{CompactDecimalFormatterOptions, DecimalFormatterOptions};
 use icu_decimal::provider::{CompactPatterns, DecimalSymbols};
@@ -39,16 +40,25 @@ fn print_plain(rt: &HostRuntime, number: &str) -> Option<()> {
     print_parts(rt, &text)
 }
 
+/// Patterns with a letter behind the number, the same for each plural category.
+fn behind(alloc: Global, letter: &str) -> Option<PluralElements<Pattern<SinglePlaceholder>>> {
+    let pattern = Pattern::try_new(alloc, Some(0), letter).ok()?;
+    Some(PluralElements::new(pattern))
+}
+
+/// The patterns of thousands and millions in short English.
+fn short_patterns(alloc: Global) -> Option<CompactPatterns<SinglePlaceholder>> {
+    let mut patterns = BTreeMap::new(alloc);
+    patterns.entry(3).ok()?.or_insert((3, behind(alloc, "K")?));
+    patterns.entry(6).ok()?.or_insert((6, behind(alloc, "M")?));
+    CompactPatterns::new(alloc, patterns, None).ok()
+}
+
 /// Thousands and millions in short English.
 fn short_english(alloc: Global) -> Option<CompactDecimalFormatter> {
     let plain = english(alloc, CompactDecimalFormatterOptions::default().into())?;
     let rules = PluralRules::from_rules(alloc, &[(PluralCategory::One, "i = 1 and v = 0")]).ok()?;
-    let thousands = PluralElements::new(Pattern::try_new(alloc, Some(0), "K").ok()?);
-    let millions = PluralElements::new(Pattern::try_new(alloc, Some(0), "M").ok()?);
-    let mut patterns = BTreeMap::new(alloc);
-    patterns.entry(3).ok()?.or_insert((3, thousands));
-    patterns.entry(6).ok()?.or_insert((6, millions));
-    let table = CompactPatterns::new(alloc, patterns, None).ok()?;
+    let table = short_patterns(alloc)?;
     Some(CompactDecimalFormatter::from_parts(plain, rules, table))
 }
 

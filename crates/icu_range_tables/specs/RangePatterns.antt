@@ -3,7 +3,7 @@ use Rattle.std.specs.Prelude.{ℕ, ◌-◌, ◌==◌, Bool, true, not, ◌&&◌,
 use Rattle.std.specs.Prelude.{Option, Some, None, Result, Ok, if◌then◌else◌}
 use Rattle.std.specs.Cmp.Lexicographic.{pointwise}
 use Rattle.serde_json.specs.Data.{Data}
-use Rattle.icu_ranges.specs.Separator.{Separator, separator_of}
+use Rattle.icu_ranges.specs.Separator.{Separator, separator_of, with_approximately}
 use Rattle.icu_table_entries.specs.Named.{NamedEntry, identifier_from, refused}
 use Rattle.icu_table_entries.specs.Reading.{◌>>=◌, object_in, optional_at, text_at, text_in}
 use Rattle.icu_table_entries.specs.declared.error.EntryFault.TheVariants.{BadRangePattern, EmptyText}
@@ -39,8 +39,12 @@ unfoldable pub approximately_of : Position → Option (List ℕ) → Result (Opt
 approximately_of position None = Ok None
 approximately_of position (Some sign) = if has_bytes sign then Ok (Some sign) else refused position (EmptyText Approximately)
 
--- An entry: first the kinds of all its fields, then its name, then its pattern and the sign for approximately, which is judged
--- and not kept.
+-- a separator with the sign for approximately of its entry; without one it keeps that of CLDR's root
+abbrev pub with_sign : Option (List ℕ) → Separator → Separator
+with_sign None separator = separator
+with_sign (Some sign) separator = with_approximately sign separator
+
+-- An entry: first the kinds of all its fields, then its name, then its pattern and the sign for approximately.
 unfoldable pub ranges_at : Position → Data → Result (NamedEntry Separator) TableError
 ranges_at position d = do
   d ← object_in position.key d
@@ -51,4 +55,4 @@ ranges_at position d = do
   identifier ← identifier_from position locale system
   separator ← range_pattern_of position text
   sign ← approximately_of position sign
-  Ok (record { identifier = identifier; content = separator })
+  Ok (record { identifier = identifier; content = with_sign sign separator })

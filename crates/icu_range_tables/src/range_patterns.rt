@@ -1,8 +1,8 @@
 //! Entries of range patterns.
 
-ghost use Rattle.std.specs.Prelude.{option_map};
+ghost use Rattle.std.specs.Prelude.{◌≡◌, Ok, option_map};
 ghost use Rattle.icu_table_entries.specs.Reading.{Gives};
-ghost use Rattle.icu_range_tables.specs.RangePatterns.{approximately_of, range_pattern_of};
+ghost use Rattle.icu_range_tables.specs.RangePatterns.{approximately_of, range_pattern_of, with_sign};
 
 use icu_provider::DataLocale;
 use icu_ranges::{RangePattern, RangePatternError};
@@ -44,6 +44,21 @@ fn approximately_of(position: Position, sign: Option<&str>) -> Result<Option<&st
     }
 }
 
+/// A range pattern with the sign for approximately, if there is one.
+fn with_sign(
+    alloc: Global,
+    pattern: RangePattern,
+    sign: Option<&str>,
+) -> Result<RangePattern, TableError>
+    ensures { Gives (λ x. x) result
+        (Ok (with_sign (option_map (λ s. s.now) sign.entry) pattern)) }
+{
+    match sign {
+        Some(text) => Ok(pattern.with_approximately_sign(String::from_str(alloc, text)?)),
+        None => Ok(pattern),
+    }
+}
+
 /// Range patterns under their name.
 pub struct RangesEntry;
 
@@ -69,8 +84,9 @@ impl EntryKind for RangesEntry {
         let text = text_at(value, Key::Pattern)?;
         let sign = optional_text_at(value, Key::Approximately)?;
         let name = name_of(position, locale, system)?;
-        let content = range_pattern_of(alloc, position, text)?;
-        let _sign = approximately_of(position, sign)?;
+        let pattern = range_pattern_of(alloc, position, text)?;
+        let sign = approximately_of(position, sign)?;
+        let content = with_sign(alloc, pattern, sign)?;
         Ok(NamedEntry { name, content })
     }
 

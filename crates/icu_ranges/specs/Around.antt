@@ -1,5 +1,5 @@
 -- What is written for a range of amounts of money or of percents.
-use Rattle.std.specs.Prelude.{Bool, true, false, ◌&&◌, List, [], if◌then◌else◌}
+use Rattle.std.specs.Prelude.{Bool, ◌&&◌, List, [], if◌then◌else◌}
 use Rattle.fixed_decimal.specs.declared.signs.Sign.{Sign}
 use Rattle.fixed_decimal.specs.declared.signs.Sign.TheVariants.{None as NoSign}
 use Rattle.writeable.specs.Events.{Event, characters}
@@ -7,15 +7,12 @@ use Rattle.icu_plurals.specs.Operands.{Operands}
 use Rattle.icu_decimal_interface.specs.Nested.{ShownPair, pair_events}
 use Rattle.icu_dimension_data.specs.Resolved.{Signed}
 use Rattle.icu_dimension.specs.Money.{sign_framed}
+pub use Rattle.icu_ranges.specs.Approximately.{has_no_sign}
+use Rattle.icu_ranges.specs.Approximately.{amount_approximated}
 use Rattle.icu_ranges.specs.Edges.{is_long}
 use Rattle.icu_ranges.specs.Joined.{joined}
-use Rattle.icu_ranges.specs.Ranges.{RangeStyle, is_single}
+use Rattle.icu_ranges.specs.Ranges.{RangeStyle, is_single, single_of}
 use Rattle.icu_ranges.specs.Separator.{Separator}
-
--- no sign is written
-abbrev pub has_no_sign : Sign → Bool
-has_no_sign NoSign = true
-has_no_sign _ = false
 
 -- what stands around numbers without a sign, before and after them together
 abbrev pub around_none : Signed → List Event
@@ -31,10 +28,15 @@ around_joined separator patterns start_sign end_sign start end =
     if is_shared patterns start_sign end_sign then sign_framed patterns NoSign (joined separator start end)
     else joined separator (sign_framed patterns start_sign start) (sign_framed patterns end_sign end)
 
--- two amounts as a range; where both texts are one, the first alone
+-- an amount where both texts are written as one
+abbrev pub amount_alone : RangeStyle → Signed → Sign → List Event → List Event
+amount_alone style patterns sign es =
+    single_of style.fallback (sign_framed patterns sign es) (amount_approximated style.separator.approximately patterns sign es)
+
+-- two amounts as a range; where both texts are one, the first alone, with the approximately sign if that is wanted
 abbrev pub amounts_of : RangeStyle → Signed → Sign → Sign → List Event → List Event → List Event
 amounts_of style patterns start_sign end_sign start end =
-    if is_single style.fallback (sign_framed patterns start_sign start) (sign_framed patterns end_sign end) then sign_framed patterns start_sign start
+    if is_single style.fallback (sign_framed patterns start_sign start) (sign_framed patterns end_sign end) then amount_alone style patterns start_sign start
     else around_joined style.separator patterns start_sign end_sign start end
 
 -- two amounts as a range, by their numbers as they are shown

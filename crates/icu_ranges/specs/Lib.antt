@@ -3,6 +3,8 @@ pub mod EdgeLaws
 pub mod Separator
 pub mod Joined
 pub mod Order
+pub mod Approximately
+pub mod MarkLaws
 pub mod Digits
 pub mod Ranges
 pub mod Writing

@@ -4,7 +4,8 @@ use Rattle.fixed_decimal.specs.declared.signs.Sign.{Sign}
 use Rattle.fixed_decimal.specs.SignDisplay.{is_negative}
 use Rattle.writeable.specs.Events.{Event, text_of}
 use Rattle.icu_decimal_interface.specs.Shown.{Shown, size_shown}
-use Rattle.icu_ranges.specs.declared.options.RangeIdentityFallback.TheVariants.{SingleValue}
+use Rattle.icu_ranges.specs.declared.options.RangeIdentityFallback.TheVariants.{SingleValue, Approximately}
+use Rattle.icu_ranges.specs.Approximately.{approximated}
 use Rattle.icu_ranges.specs.Joined.{joined}
 use Rattle.icu_ranges.specs.Order.{Ends}
 use Rattle.icu_ranges.specs.Ranges.{range_of}
@@ -23,3 +24,10 @@ abbrev pub IdentityIsEqualTexts : Type 0
 IdentityIsEqualTexts = (separator : Separator) (es fs : List Event) →
     (text_of es ≡ text_of fs → range_of (record { separator = separator; fallback = SingleValue }) es fs ≡ es)
     × (text_of es ≢ text_of fs → range_of (record { separator = separator; fallback = SingleValue }) es fs ≡ joined separator es fs)
+
+-- equal texts are written once, with the approximately sign in front, and others are joined
+abbrev pub ApproximatelyIsForEqualTexts : Type 0
+ApproximatelyIsForEqualTexts = (separator : Separator) (es fs : List Event) →
+    (text_of es ≡ text_of fs →
+    range_of (record { separator = separator; fallback = Approximately }) es fs ≡ approximated separator.approximately es)
+    × (text_of es ≢ text_of fs → range_of (record { separator = separator; fallback = Approximately }) es fs ≡ joined separator es fs)

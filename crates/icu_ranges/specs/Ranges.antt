@@ -7,8 +7,9 @@ use Rattle.icu_plurals.specs.Operands.{Operands}
 use Rattle.icu_decimal_data.specs.declared.decimal_symbols.DecimalSymbols.{DecimalSymbols}
 use Rattle.icu_decimal.specs.Decimal.{signed_events}
 use Rattle.icu_decimal_interface.specs.Nested.{ShownPair, pair_events}
+use Rattle.icu_ranges.specs.Approximately.{approximated}
 use Rattle.icu_ranges.specs.declared.options.RangeIdentityFallback.{RangeIdentityFallback}
-use Rattle.icu_ranges.specs.declared.options.RangeIdentityFallback.TheVariants.{SingleValue, Range}
+use Rattle.icu_ranges.specs.declared.options.RangeIdentityFallback.TheVariants.{SingleValue, Approximately, Range}
 use Rattle.icu_ranges.specs.Joined.{joined}
 use Rattle.icu_ranges.specs.Separator.{Separator}
 
@@ -21,14 +22,23 @@ pub record RangeStyle : Type 0 where
 abbrev pub same_text : List Event → List Event → Bool
 same_text first second = pointwise nat_eq (text_of first) (text_of second)
 
--- two texts are written as one: they are equal, and a single value is wanted there
+-- two texts are written as one: they are equal, and one text is wanted there
 abbrev pub is_single : RangeIdentityFallback → List Event → List Event → Bool
 is_single SingleValue first second = same_text first second
+is_single Approximately first second = same_text first second
 is_single Range first second = false
 
--- two texts as a range: joined, or where they are one the first alone
+-- what is written where two texts are written as one: the first as it is, or with the approximately sign
+abbrev pub single_of : RangeIdentityFallback → List Event → List Event → List Event
+single_of SingleValue first approximate = first
+single_of Approximately first approximate = approximate
+single_of Range first approximate = first
+
+-- two texts as a range: joined, or where they are one the first alone, with the approximately sign in front if that is wanted
 abbrev pub range_of : RangeStyle → List Event → List Event → List Event
-range_of style first second = if is_single style.fallback first second then first else joined style.separator first second
+range_of style first second =
+    if is_single style.fallback first second then single_of style.fallback first (approximated style.separator.approximately first)
+    else joined style.separator first second
 
 -- two numbers as a range, each with its sign
 abbrev pub numbers_framed : RangeStyle → DecimalSymbols → Sign → Sign → Operands → List Event → Operands → List Event → List Event

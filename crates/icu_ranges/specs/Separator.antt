@@ -22,11 +22,12 @@ pub record IsRangePattern (text separator : List ℕ) : Type 0 where
 abbrev pub is_pattern_white_space : ℕ → Bool
 is_pattern_white_space c = c == 9 || c == 10 || c == 11 || c == 12 || c == 13 || c == 32 || c == 133 || c == 8206 || c == 8207 || c == 8232 || c == 8233
 
--- a separator, and whether a space stands before it and after it where it is spaced
+-- a separator, whether a space stands before it and after it where it is spaced, and the approximately sign
 pub record Separator : Type 0 where
   pub text : List ℕ
   pub space_before : Bool
   pub space_after : Bool
+  pub approximately : List ℕ
 
 -- characters begin with one that isn't white space
 abbrev pub begins_with_ink : List ℕ → Bool
@@ -48,12 +49,23 @@ abbrev pub has_ink_last : Option Edges → Bool
 has_ink_last None = false
 has_ink_last (Some e) = not (is_pattern_white_space e.last)
 
--- the separator of a text: a space stands on each side where the text has no white space of its own
+-- the separator of a text: a space stands on each side where the text has no white space of its own; the approximately sign is that
+-- of CLDR's root
 abbrev pub separator_of : List ℕ → Separator
 separator_of text = record {
   text = text;
   space_before = begins_with_ink (chars text);
   space_after = ends_with_ink (chars text);
+  approximately = codes "~";
+}
+
+-- the same separator, with another approximately sign
+abbrev pub with_approximately : List ℕ → Separator → Separator
+with_approximately sign s = record {
+  text = s.text;
+  space_before = s.space_before;
+  space_after = s.space_after;
+  approximately = sign;
 }
 
 -- a space, or nothing

@@ -2,11 +2,13 @@
 
 ghost use Rattle.std.specs.Prelude.{◌≡◌};
 ghost use Rattle.writeable.specs.Events.{characters};
-ghost use Rattle.icu_ranges.specs.Around.{around_joined, around_none, has_no_sign, is_shared};
+ghost use Rattle.icu_ranges.specs.Around.{around_joined, around_none, is_shared};
 ghost use Rattle.icu_ranges.specs.Edges.{is_long};
 
+use crate::approximately::{has_no_sign, write_amount_approximated};
 use crate::edges::is_long;
 use crate::joined::{JoinedTexts, Lent, is_single, write_joined};
+use crate::options::RangeIdentityFallback;
 use crate::range_pattern::RangePattern;
 use crate::range_style::RangeStyle;
 use crate::showing::RangeFrame;
@@ -16,16 +18,6 @@ use icu_decimal_interface::ShownNumber;
 use icu_dimension_data::SignedPatterns;
 use std::alloc::Global;
 use writeable::{EventWriter, OutOfMemory, WriteFault, Writeable};
-
-/// Whether no sign is written.
-fn has_no_sign(sign: Sign) -> bool
-    ensures { result ≡ has_no_sign sign }
-{
-    match sign {
-        Sign::None => true,
-        Sign::Negative | Sign::Positive => false,
-    }
-}
 
 /// Whether more than one character stands around numbers without a sign.
 fn is_long_around(patterns: &SignedPatterns) -> bool
@@ -85,7 +77,7 @@ pub(crate) struct AroundFrame<'a> {
 impl AroundFrame<'_> {
     ghost use Rattle.std.specs.Prelude.{◌≡◌, IfOk};
     ghost use Rattle.icu_dimension.specs.Money.{sign_framed};
-    ghost use Rattle.icu_ranges.specs.Around.{amounts_of};
+    ghost use Rattle.icu_ranges.specs.Around.{amount_alone, amounts_of};
     ghost use Rattle.icu_ranges.specs.Ranges.{is_single};
     ghost use Rattle.icu_ranges.specs.Writing.{WroteText};
 
@@ -111,6 +103,30 @@ impl AroundFrame<'_> {
         is_single(alloc, self.style.fallback, &first, &second)
     }
 
+    /// Writes a text that both ends of a range have, in the pattern of its sign.
+    fn write_single<A: Writeable, K: EventWriter>(
+        &self,
+        text: &A,
+        out: &mut K,
+    ) -> Result<(), WriteFault>
+        ensures { K.wrote out.old result (amount_alone (record {
+          separator = self.now.style.pattern.now;
+          fallback = self.now.style.fallback;
+        }) self.now.patterns.now self.now.start_sign (A.events text.now)) out.new }
+    {
+        match self.style.fallback {
+            RangeIdentityFallback::Approximately => {
+                let sign = self.style.pattern.approximately_sign();
+                write_amount_approximated(sign, self.patterns, self.start_sign, text, out)
+            }
+            RangeIdentityFallback::SingleValue | RangeIdentityFallback::Range => self
+                .patterns
+                .for_sign(self.start_sign)
+                .interpolate(Lent { value: text })
+                .write_events(out),
+        }
+    }
+
     /// Writes two texts in the patterns of their signs, as a range.
     pub(crate) fn write_texts<A: Writeable, B: Writeable, K: EventWriter>(
         &self,
@@ -126,11 +142,7 @@ impl AroundFrame<'_> {
             (B.events end.now)) out.new }
     {
         let result = match self.is_single(alloc, start, end) {
-            Ok(true) => self
-                .patterns
-                .for_sign(self.start_sign)
-                .interpolate(Lent { value: start })
-                .write_events(out),
+            Ok(true) => self.write_single(start, out),
             Ok(false) => write_around(
                 self.patterns,
                 self.start_sign,

@@ -3,9 +3,11 @@
 ghost use Rattle.std.specs.Prelude.{◌≡◌, IfOk};
 ghost use Rattle.writeable.specs.Events.{text_of};
 ghost use Rattle.icu_ranges.specs.Joined.{joined};
-ghost use Rattle.icu_ranges.specs.Ranges.{is_single, range_of};
+ghost use Rattle.icu_ranges.specs.Approximately.{approximated};
+ghost use Rattle.icu_ranges.specs.Ranges.{is_single, range_of, single_of};
 ghost use Rattle.icu_ranges.specs.Writing.{WroteText};
 
+use crate::approximately::Approximated;
 use crate::edges::is_bare;
 use crate::options::RangeIdentityFallback;
 use crate::range_pattern::{RangePattern, write_separator};
@@ -84,11 +86,29 @@ pub(crate) fn is_single<A: Writeable, B: Writeable>(
 {
     match fallback {
         RangeIdentityFallback::Range => Ok(false),
-        RangeIdentityFallback::SingleValue => {
+        RangeIdentityFallback::SingleValue | RangeIdentityFallback::Approximately => {
             let first = text_bytes(alloc, start)?;
             let second = text_bytes(alloc, end)?;
             Ok(first.as_slice() == second.as_slice())
         }
+    }
+}
+
+/// Writes a text that both ends of a range have.
+fn write_single<A: Writeable, K: EventWriter>(
+    style: &RangeStyle<'_>,
+    text: &A,
+    out: &mut K,
+) -> Result<(), WriteFault>
+    ensures { K.wrote out.old result (single_of style.now.fallback (A.events text.now)
+        (approximated style.now.pattern.now.approximately (A.events text.now))) out.new }
+{
+    match style.fallback {
+        RangeIdentityFallback::Approximately => {
+            let sign = style.pattern.approximately_sign();
+            Approximated { sign, value: text }.write_events(out)
+        }
+        RangeIdentityFallback::SingleValue | RangeIdentityFallback::Range => text.write_events(out),
     }
 }
 
@@ -106,7 +126,7 @@ pub(crate) fn write_range_of<A: Writeable, B: Writeable, K: EventWriter>(
     }) (A.events start.now) (B.events end.now)) out.new }
 {
     let result = match is_single(alloc, style.fallback, start, end) {
-        Ok(true) => start.write_events(out),
+        Ok(true) => write_single(style, start, out),
         Ok(false) => write_joined(style.pattern, start, end, out),
         Err(OutOfMemory) => return Err(FormatError::OutOfMemory),
     };

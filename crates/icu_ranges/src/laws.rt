@@ -5,7 +5,7 @@ ghost use Rattle.fixed_decimal.specs.Unsigned.{Unsigned};
 ghost use Rattle.icu_decimal_interface.specs.Nested.{BothSuch, ShownPair};
 ghost use Rattle.icu_decimal_interface.specs.Shown.{Shown};
 ghost use Rattle.icu_ranges.specs.Order.{Ends, IsAbove};
-ghost use Rattle.icu_ranges.specs.RangeLaws.{IdentityIsEqualTexts, IsShownAbove};
+ghost use Rattle.icu_ranges.specs.RangeLaws.{ApproximatelyIsForEqualTexts, IdentityIsEqualTexts, IsShownAbove};
 
 use icu_decimal_interface::AbstractFormatter;
 
@@ -28,4 +28,10 @@ pub fn ends_stand_in_order<F: AbstractFormatter>()
 // promise: Two texts are written as one exactly if they are equal.
 pub fn identity_is_equal_texts()
     ensures { IdentityIsEqualTexts }
+{}
+
+/// Where the approximately sign is wanted, one text is written with it exactly if two are equal.
+// promise: Exactly equal texts get the approximately sign.
+pub fn approximately_is_for_equal_texts()
+    ensures { ApproximatelyIsForEqualTexts }
 {}

@@ -1,6 +1,7 @@
 //! Ranges of numbers, as `3–5` and `-3 – 5`, over any formatter of numbers.
 #![tactic(auto)]
 
+mod approximately;
 mod around;
 mod currency_range_formatter;
 mod decimal_range;
@@ -18,6 +19,7 @@ mod range_pattern;
 mod range_style;
 mod showing;
 
+pub use approximately::Approximated;
 pub use currency_range_formatter::CurrencyRangeFormatter;
 pub use decimal_range::{DecimalRange, Descending};
 pub use error::{PluralRangesError, RangePatternError};

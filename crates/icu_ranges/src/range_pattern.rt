@@ -19,7 +19,11 @@ pub struct RangePattern {
     separator: String,
     space_before: bool,
     space_after: bool,
+    approximately_sign: String,
 }
+
+/// The approximately sign of CLDR's root.
+const ROOT_APPROXIMATELY_SIGN: &str = "~";
 
 impl Model for RangePattern {
     ghost use Rattle.icu_ranges.specs.Separator.{Separator};
@@ -31,6 +35,7 @@ impl Model for RangePattern {
       text = string_bytes p.separator;
       space_before = p.space_before;
       space_after = p.space_after;
+      approximately = string_bytes p.approximately_sign;
     } };
 }
 
@@ -62,10 +67,11 @@ fn separator_in(text: &str) -> Option<&str>
 
 impl RangePattern {
     ghost use Rattle.std.specs.Prelude.{◌≡◌, List, ℕ, IfOk, IsErrOf};
-    ghost use Rattle.icu_ranges.specs.Separator.{IsRangePattern, separator_of};
+    ghost use Rattle.std.specs.String.{string_bytes};
+    ghost use Rattle.icu_ranges.specs.Separator.{IsRangePattern, separator_of, with_approximately};
 
     /// The pattern of a text: `{0}`, a separator without braces, and `{1}`. Any other text is a
-    /// `BadRangePattern`.
+    /// `BadRangePattern`. The approximately sign is `~`.
     // promise: Just the other texts are rejected.
     // mutations: parse_empty_separator_accepted, parse_brace_in_the_separator
     pub fn parse(alloc: Global, text: &str) -> Result<Self, RangePatternError>
@@ -82,6 +88,7 @@ impl RangePattern {
             separator: String::from_str(alloc, separator)?,
             space_before,
             space_after,
+            approximately_sign: String::from_str(alloc, ROOT_APPROXIMATELY_SIGN)?,
         })
     }
 
@@ -92,6 +99,26 @@ impl RangePattern {
         self.separator.as_str()
     }
 
+    /// The pattern with another approximately sign, as `≈`.
+    // promise: Another approximately sign leaves the separator.
+    // mutations: approximately_sign_of_a_pattern_not_replaced
+    pub fn with_approximately_sign(mut self, sign: String) -> Self
+        ensures { result ≡ with_approximately (string_bytes sign) self }
+    {
+        self.approximately_sign = sign;
+        self
+    }
+
+    /// The sign that is written where both texts of a range are equal, if
+    /// [`RangeIdentityFallback::Approximately`] is wanted there. It is `~` if none was given.
+    ///
+    /// [`RangeIdentityFallback::Approximately`]: crate::RangeIdentityFallback::Approximately
+    pub fn approximately_sign(&self) -> &str
+        ensures { result.now ≡ self.now.approximately }
+    {
+        self.approximately_sign.as_str()
+    }
+
     /// A copy of the pattern, with its own memory.
     pub fn copy(&self, alloc: Global) -> Result<Self, AllocError>
         ensures { IfOk result (λ p. p ≡ self.now) }
@@ -100,6 +127,7 @@ impl RangePattern {
             separator: String::from_str(alloc, self.separator.as_str())?,
             space_before: self.space_before,
             space_after: self.space_after,
+            approximately_sign: String::from_str(alloc, self.approximately_sign.as_str())?,
         })
     }
 }

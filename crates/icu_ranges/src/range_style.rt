@@ -40,6 +40,9 @@ impl<'a> RangeStyle<'a> {
     /// Writes two texts as a range, each with its signs and symbols, into any writer (this
     /// project's own).
     ///
+    /// With `RangeIdentityFallback::Approximately` the approximately sign stands in front of one of
+    /// two equal texts.
+    ///
     /// After `OutOfMemory` the writer is unchanged. `Sink` only where the writer failed. `Overflow`
     /// is never reported. Equal texts are found in memory, so `RangeIdentityFallback::Range` takes
     /// none.
@@ -64,8 +67,9 @@ impl<'a> RangeStyle<'a> {
     /// writer (this project's own). `signs` are those of the start and of the end.
     ///
     /// What the pattern of no sign has around a number is written once if neither number has a sign
-    /// and if it is more than one character. The errors are those of
-    /// [`write_texts_into`](RangeStyle::write_texts_into).
+    /// and if it is more than one character. The approximately sign stands in the pattern of the
+    /// number's sign: in front of this sign, or without one in the place of the plus. The errors
+    /// are those of [`write_texts_into`](RangeStyle::write_texts_into).
     // promise: Two numbers stand in the patterns of their signs.
     // mutations: style_signs_exchanged
     pub fn write_amounts_into<A: Writeable, B: Writeable, K: EventWriter>(

@@ -1,5 +1,5 @@
 -- Equal texts of readable ranges of amounts are of equal ranges.
-use Rattle.std.proofs.Common.{◌≡◌, inl, inr, ℕ, refl, sym, ap, ◌∙◌, List, [], ◌++◌, append_assoc, append-nil}
+use Rattle.std.proofs.Common.{◌≡◌, ◌≢◌, inl, inr, ℕ, refl, sym, ap, ◌∙◌, List, [], ◌++◌, append_assoc, append-nil}
 use Rattle.std.proofs.Common.{Bool, true, false, ◌&&◌, if◌then◌else◌}
 use Rattle.std.specs.Str.{chars}
 use Rattle.std.proofs.lemmas.Bool.{and_parts}
@@ -15,15 +15,17 @@ use Rattle.icu_dimension.specs.MoneyReadable.{money_surroundings}
 use Rattle.icu_dimension.proofs.MoneyDistinct.{characters-framed}
 use Rattle.icu_dimension_data.specs.Resolved.{Signed}
 use Rattle.icu_ranges.specs.declared.options.RangeIdentityFallback.{RangeIdentityFallback}
+use Rattle.icu_ranges.specs.declared.options.RangeIdentityFallback.TheVariants.{Approximately}
+use Rattle.icu_ranges.specs.Approximately.{amount_approximated}
 use Rattle.icu_ranges.specs.Around.{around_joined, around_none, has_no_sign, is_shared}
 use Rattle.icu_ranges.specs.Edges.{is_long}
 use Rattle.icu_ranges.specs.Joined.{joined}
 use Rattle.icu_ranges.specs.Order.{Ends}
-use Rattle.icu_ranges.specs.Ranges.{is_single}
+use Rattle.icu_ranges.specs.Ranges.{is_single, single_of}
 use Rattle.icu_ranges.specs.Separator.{Separator}
 use Rattle.icu_ranges_readable.specs.RangeLaws.{AmountRangeTextTellsBothEnds, AreDecimals, EqualAmountRangeTextsTell, plain_amounts}
 use Rattle.icu_ranges_readable.specs.ReadableRange.{IsApart, IsReadableAmountRange}
-use Rattle.icu_ranges_readable.proofs.JoinedTexts.{are_joined, single_same}
+use Rattle.icu_ranges_readable.proofs.JoinedTexts.{are_joined, single_exact, single_same}
 use Rattle.icu_ranges_readable.proofs.RangesTold.{IsRange, alone, ranges_tell, singles}
 use Rattle.icu_ranges_readable.proofs.Spaces.{spaces}
 use Rattle.icu_ranges_readable.proofs.TwoNumbers.{TellsSigns, tells_signs}
@@ -73,6 +75,10 @@ module _ (f : SignedFormat DecimalFormat) (separator : Separator) (h : IsReadabl
   abbrev written : Decimal → List Event
   written n = sign_framed f.patterns n.sign (bare n)
 
+  -- what would be written with the approximately sign
+  abbrev approximate : Decimal → List Event
+  approximate n = amount_approximated separator.approximately f.patterns n.sign (bare n)
+
   -- its characters
   characters-alone : (n : Decimal) → characters (written n) ≡ alone f.formatter (chars separator.text) apart around tells once once_unsigned n
   characters-alone n = characters-framed f.patterns n.sign (bare n)
@@ -83,7 +89,7 @@ module _ (f : SignedFormat DecimalFormat) (separator : Separator) (h : IsReadabl
 
   -- two amounts, joined in either way, are a range
   both_ways : (p : Ends) (b : Bool) → is_shared f.patterns p.start.sign p.end.sign ≡ b →
-      IsRange f.formatter (chars separator.text) apart around tells once once_unsigned p
+      IsRange f.formatter (chars separator.text) apart around tells once once_unsigned [] tt p
       (characters (if b then sign_framed f.patterns NoSign (joined separator (bare p.start) (bare p.end))
       else joined separator (written p.start) (written p.end)))
   both_ways p true e =
@@ -105,17 +111,18 @@ module _ (f : SignedFormat DecimalFormat) (separator : Separator) (h : IsReadabl
       inr (inl (record { back = j.back; next = j.next; apart = e; all = j.all }))
 
   -- what is written for two amounts is a range of them
-  is_range : (fallback : RangeIdentityFallback) (p : Ends) → AreDecimals p →
-      IsRange f.formatter (chars separator.text) apart around tells once once_unsigned p
+  is_range : (fallback : RangeIdentityFallback) (p : Ends) → fallback ≢ Approximately → AreDecimals p →
+      IsRange f.formatter (chars separator.text) apart around tells once once_unsigned [] tt p
       (characters (plain_amounts f (record { separator = separator; fallback = fallback }) p))
-  is_range fallback p hp =
+  is_range fallback p exact hp =
       go (is_single fallback (written p.start) (written p.end)) refl
     where
       go : (b : Bool) → is_single fallback (written p.start) (written p.end) ≡ b →
-          IsRange f.formatter (chars separator.text) apart around tells once once_unsigned p
-          (characters (if b then written p.start else around_joined separator f.patterns p.start.sign p.end.sign (bare p.start) (bare p.end)))
+          IsRange f.formatter (chars separator.text) apart around tells once once_unsigned [] tt p
+          (characters (if b then single_of fallback (written p.start) (approximate p.start)
+          else around_joined separator f.patterns p.start.sign p.end.sign (bare p.start) (bare p.end)))
       go true e = inl (record {
-        all = characters-alone p.start;
+        all = ap characters (single_exact fallback (written p.start) (approximate p.start) exact) ∙ characters-alone p.start;
         same = singles f.formatter (chars separator.text) apart around tells once once_unsigned p.start p.end hp.start hp.end
             (sym (characters-alone p.start)
             ∙ same_characters (written p.start) (written p.end) _ _ refl refl (single_same fallback (written p.start) (written p.end) e)
@@ -125,12 +132,12 @@ module _ (f : SignedFormat DecimalFormat) (separator : Separator) (h : IsReadabl
 
 -- equal characters of readable ranges of amounts are of equal ranges
 pub amounts_tell : AmountRangeTextTellsBothEnds
-amounts_tell f style p q h hp hq e =
+amounts_tell f style p q exact h hp hq e =
     ranges_tell f.formatter (chars style.separator.text) (apart f style.separator h) (around f style.separator h) (tells f style.separator h)
-    (once f style.separator h) (once_unsigned f style.separator h) p q _ _
-    hp hq (is_range f style.separator h style.fallback p hp) (is_range f style.separator h style.fallback q hq) e
+    (once f style.separator h) (once_unsigned f style.separator h) [] tt p q _ _
+    hp hq (is_range f style.separator h style.fallback p exact hp) (is_range f style.separator h style.fallback q exact hq) e
 
 -- so are those that `write_to_string` answers
 pub equal_amounts_tell : EqualAmountRangeTextsTell
-equal_amounts_tell f style p q one other h hp hq first second same =
-    amounts_tell f style p q h hp hq (same_characters (plain_amounts f style p) (plain_amounts f style q) one other first second same)
+equal_amounts_tell f style p q one other exact h hp hq first second same =
+    amounts_tell f style p q exact h hp hq (same_characters (plain_amounts f style p) (plain_amounts f style q) one other first second same)

@@ -1,14 +1,14 @@
 -- The characters of two texts with a separator between them.
-use Rattle.std.proofs.Common.{◌≡◌, ℕ, refl, sym, ap₂, ◌∙◌, List, ◌++◌, append_assoc, append-nil, Bool, true, false, ◌&&◌}
+use Rattle.std.proofs.Common.{◌≡◌, ◌≢◌, ℕ, refl, sym, ap₂, ◌∙◌, List, ◌++◌, append_assoc, append-nil, Bool, true, false, ◌&&◌}
 use Rattle.std.proofs.Common.{if◌then◌else◌}
 use Rattle.std.specs.Str.{chars}
 use Rattle.writeable.specs.Events.{Event, characters, text_events, text_of}
 use Rattle.writeable.specs.Writes.{characters-append}
 use Rattle.writeable.proofs.EventLemmas.{characters-map_Char}
 use Rattle.icu_ranges.specs.declared.options.RangeIdentityFallback.{RangeIdentityFallback}
-use Rattle.icu_ranges.specs.declared.options.RangeIdentityFallback.TheVariants.{SingleValue, Range}
+use Rattle.icu_ranges.specs.declared.options.RangeIdentityFallback.TheVariants.{SingleValue, Approximately, Range}
 use Rattle.icu_ranges.specs.Joined.{between, is_bare, joined}
-use Rattle.icu_ranges.specs.Ranges.{is_single}
+use Rattle.icu_ranges.specs.Ranges.{is_single, single_of}
 use Rattle.icu_ranges.specs.Separator.{Separator, plain_events, space_if, spaced_events}
 use Rattle.icu_ranges.proofs.PatternCuts.{bytes_true}
 use Rattle.icu_ranges_readable.proofs.Spaces.{spaces}
@@ -21,7 +21,14 @@ characters-space_if false = refl
 -- texts that are written as one are equal
 pub single_same : (fallback : RangeIdentityFallback) (es fs : List Event) → is_single fallback es fs ≡ true → text_of es ≡ text_of fs
 single_same SingleValue es fs e = bytes_true (text_of es) (text_of fs) e
+single_same Approximately es fs e = bytes_true (text_of es) (text_of fs) e
 single_same Range es fs e = cc
+
+-- without the approximately sign such a text is the first
+pub single_exact : (fallback : RangeIdentityFallback) (es fs : List Event) → fallback ≢ Approximately → single_of fallback es fs ≡ es
+single_exact SingleValue es fs exact = refl
+single_exact Approximately es fs exact = absurd (exact refl)
+single_exact Range es fs exact = refl
 
 module _ (separator : Separator) where
   -- the separator, with a space on each side or none

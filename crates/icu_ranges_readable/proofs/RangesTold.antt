@@ -1,12 +1,15 @@
 -- Ranges of two numbers with signs: equal characters are of equal ranges.
--- A range is its start alone, or both numbers in the surroundings of their signs with the separator between them, or both in the
--- surroundings of no sign, which are written once.
-use Rattle.std.proofs.Common.{◌≡◌, ◌≢◌, ◌⊎◌, inl, inr, ℕ, refl, sym, ap₂, ◌∙◌, List, [], ◌++◌, Bool, true, false}
+-- A range is its start alone, perhaps behind a text without a digit, or both numbers in the surroundings of their signs with the
+-- separator between them, or both in the surroundings of no sign, which are written once.
+use Rattle.std.proofs.Common.{◌≡◌, ◌≢◌, ◌⊎◌, inl, inr, ℕ, refl, sym, ap₂, ◌∙◌, List, [], ◌++◌, append_assoc, Bool, true, false}
+use Rattle.std.proofs.lemmas.List.{append_cancel_left}
 use Rattle.fixed_decimal.specs.declared.signed.Decimal.{Decimal}
 use Rattle.fixed_decimal.specs.declared.signs.Sign.{Sign}
 use Rattle.fixed_decimal.specs.declared.signs.Sign.TheVariants.{Negative, Positive, None as NoSign}
 use Rattle.fixed_decimal.specs.Unsigned.{Unsigned, IsUnsigned}
 use Rattle.icu_decimal.specs.Decimal.{DecimalFormat}
+use Rattle.icu_decimal.proofs.DigitsDistinct.{IsOther}
+use Rattle.icu_decimal.proofs.Runs.{Every, every-append}
 use Rattle.icu_decimal_readable.specs.Readable.{Surroundings}
 use Rattle.icu_ranges.specs.Order.{Ends}
 use Rattle.icu_ranges_readable.specs.RangeLaws.{AreDecimals}
@@ -50,12 +53,7 @@ module _ (f : DecimalFormat) (separator : List ℕ) (h : IsApart f separator) (a
       ++ (digits f separator h n.absolute
       ++ ((spaces back ++ (separator ++ (spaces next ++ []))) ++ (digits f separator h m.absolute ++ (around NoSign).after)))
 
-  -- characters of one number, which is both ends
-  pub record IsSingle (p : Ends) (cs : List ℕ) : Type 0 where
-    pub all : cs ≡ alone p.start
-    pub same : p.start ≡ p.end
-
-  -- those of two
+  -- characters of two numbers
   pub record IsBoth (p : Ends) (cs : List ℕ) : Type 0 where
     pub back : Bool
     pub next : Bool
@@ -68,10 +66,6 @@ module _ (f : DecimalFormat) (separator : List ℕ) (h : IsApart f separator) (a
     pub next : Bool
     pub together : once p.start.sign p.end.sign ≡ true
     pub all : cs ≡ joined_once p.start back next p.end
-
-  -- those of a range
-  abbrev pub IsRange : Ends → List ℕ → Type 0
-  IsRange p cs = IsSingle p cs ⊎ (IsBoth p cs ⊎ IsShared p cs)
 
   -- equal signs and digits are equal numbers
   numbers : (n m : Decimal) → n.sign ≡ m.sign → n.absolute ≡ m.absolute → n ≡ m
@@ -133,37 +127,57 @@ module _ (f : DecimalFormat) (separator : List ℕ) (h : IsApart f separator) (a
       go (inr signed) start middle none =
           sign_stands f separator h around k p.start.sign p.end.sign back next before after signed middle
 
-  -- one number isn't two with signs
-  single_not_both : (n : Decimal) (q : Ends) (before after : Bool) → IsUnsigned n.absolute → AreDecimals q
-      → alone n ≡ joined_signs q.start before after q.end → ⊥
-  single_not_both n q before after hn hq e =
-      one_is_not_two f separator h (around n.sign).before (around q.start.sign).before n.absolute q.start.absolute q.end.absolute
-      (between_signs f separator h around k q.start.sign before after q.end.sign) (around n.sign).after (around q.end.sign).after
-      (k.before_free n.sign) (k.before_free q.start.sign) hn hq.start hq.end
-      (is_middle f separator h (around q.start.sign).after (around q.end.sign).before before after (k.after_free q.start.sign) (k.before_free q.end.sign))
-      (k.after_free n.sign) e
+  -- a text without a digit may stand in front of a number that is both ends
+  module _ (front : List ℕ) (free : Every (IsOther f) front) where
+    -- characters of one number, which is both ends, behind that text
+    pub record IsSingle (p : Ends) (cs : List ℕ) : Type 0 where
+      pub all : cs ≡ front ++ alone p.start
+      pub same : p.start ≡ p.end
 
-  -- nor two in common surroundings
-  single_not_shared : (n : Decimal) (q : Ends) (before after : Bool) → IsUnsigned n.absolute → AreDecimals q
-      → alone n ≡ joined_once q.start before after q.end → ⊥
-  single_not_shared n q before after hn hq e =
-      one_is_not_two f separator h (around n.sign).before (around NoSign).before n.absolute q.start.absolute q.end.absolute
-      (spaces before ++ (separator ++ (spaces after ++ []))) (around n.sign).after (around NoSign).after
-      (k.before_free n.sign) (k.before_free NoSign) hn hq.start hq.end (is_middle f separator h [] [] before after tt tt) (k.after_free n.sign) e
+    -- those of a range
+    abbrev pub IsRange : Ends → List ℕ → Type 0
+    IsRange p cs = IsSingle p cs ⊎ (IsBoth p cs ⊎ IsShared p cs)
 
-  -- equal characters are of equal ranges
-  pub ranges_tell : (p q : Ends) (cs ds : List ℕ) → AreDecimals p → AreDecimals q → IsRange p cs → IsRange q ds → cs ≡ ds → p ≡ q
-  ranges_tell p q cs ds hp hq (inl a) (inl b) e =
-      let starts = singles p.start q.start hp.start hq.start (sym a.all ∙ e ∙ b.all) in
-      ap₂ pair starts (sym a.same ∙ starts ∙ b.same)
-  ranges_tell p q cs ds hp hq (inl a) (inr (inl b)) e = absurd (single_not_both p.start q b.back b.next hp.start hq (sym a.all ∙ e ∙ b.all))
-  ranges_tell p q cs ds hp hq (inl a) (inr (inr b)) e = absurd (single_not_shared p.start q b.back b.next hp.start hq (sym a.all ∙ e ∙ b.all))
-  ranges_tell p q cs ds hp hq (inr (inl a)) (inl b) e = absurd (single_not_both q.start p a.back a.next hq.start hp (sym b.all ∙ sym e ∙ a.all))
-  ranges_tell p q cs ds hp hq (inr (inl a)) (inr (inl b)) e = both_told p q a.back a.next b.back b.next hp hq (sym a.all ∙ e ∙ b.all)
-  ranges_tell p q cs ds hp hq (inr (inl a)) (inr (inr b)) e =
-      absurd (both_not_shared p q a.back a.next b.back b.next hp hq a.apart b.together (sym a.all ∙ e ∙ b.all))
-  ranges_tell p q cs ds hp hq (inr (inr a)) (inl b) e = absurd (single_not_shared q.start p a.back a.next hq.start hp (sym b.all ∙ sym e ∙ a.all))
-  ranges_tell p q cs ds hp hq (inr (inr a)) (inr (inl b)) e =
-      absurd (both_not_shared q p b.back b.next a.back a.next hq hp b.apart a.together (sym b.all ∙ sym e ∙ a.all))
-  ranges_tell p q cs ds hp hq (inr (inr a)) (inr (inr b)) e =
-      shared_told p q a.back a.next b.back b.next hp hq a.together b.together (sym a.all ∙ e ∙ b.all)
+    -- no digit stands before the number
+    front_free : (s : Sign) → Every (IsOther f) (front ++ (around s).before)
+    front_free s = every-append (IsOther f) front (around s).before free (k.before_free s)
+
+    -- lists that are joined from the other side
+    regrouped : (n : Decimal) → (front ++ (around n.sign).before) ++ (digits f separator h n.absolute ++ (around n.sign).after) ≡ front ++ alone n
+    regrouped n = append_assoc front (around n.sign).before (digits f separator h n.absolute ++ (around n.sign).after)
+
+    -- one number isn't two with signs
+    single_not_both : (n : Decimal) (q : Ends) (before after : Bool) → IsUnsigned n.absolute → AreDecimals q
+        → front ++ alone n ≡ joined_signs q.start before after q.end → ⊥
+    single_not_both n q before after hn hq e =
+        one_is_not_two f separator h (front ++ (around n.sign).before) (around q.start.sign).before n.absolute q.start.absolute q.end.absolute
+        (between_signs f separator h around k q.start.sign before after q.end.sign) (around n.sign).after (around q.end.sign).after
+        (front_free n.sign) (k.before_free q.start.sign) hn hq.start hq.end
+        (is_middle f separator h (around q.start.sign).after (around q.end.sign).before before after (k.after_free q.start.sign) (k.before_free q.end.sign))
+        (k.after_free n.sign) (regrouped n ∙ e)
+
+    -- nor two in common surroundings
+    single_not_shared : (n : Decimal) (q : Ends) (before after : Bool) → IsUnsigned n.absolute → AreDecimals q
+        → front ++ alone n ≡ joined_once q.start before after q.end → ⊥
+    single_not_shared n q before after hn hq e =
+        one_is_not_two f separator h (front ++ (around n.sign).before) (around NoSign).before n.absolute q.start.absolute q.end.absolute
+        (spaces before ++ (separator ++ (spaces after ++ []))) (around n.sign).after (around NoSign).after
+        (front_free n.sign) (k.before_free NoSign) hn hq.start hq.end (is_middle f separator h [] [] before after tt tt)
+        (k.after_free n.sign) (regrouped n ∙ e)
+
+    -- equal characters are of equal ranges
+    pub ranges_tell : (p q : Ends) (cs ds : List ℕ) → AreDecimals p → AreDecimals q → IsRange p cs → IsRange q ds → cs ≡ ds → p ≡ q
+    ranges_tell p q cs ds hp hq (inl a) (inl b) e =
+        let starts = singles p.start q.start hp.start hq.start (append_cancel_left front (alone p.start) (alone q.start) (sym a.all ∙ e ∙ b.all)) in
+        ap₂ pair starts (sym a.same ∙ starts ∙ b.same)
+    ranges_tell p q cs ds hp hq (inl a) (inr (inl b)) e = absurd (single_not_both p.start q b.back b.next hp.start hq (sym a.all ∙ e ∙ b.all))
+    ranges_tell p q cs ds hp hq (inl a) (inr (inr b)) e = absurd (single_not_shared p.start q b.back b.next hp.start hq (sym a.all ∙ e ∙ b.all))
+    ranges_tell p q cs ds hp hq (inr (inl a)) (inl b) e = absurd (single_not_both q.start p a.back a.next hq.start hp (sym b.all ∙ sym e ∙ a.all))
+    ranges_tell p q cs ds hp hq (inr (inl a)) (inr (inl b)) e = both_told p q a.back a.next b.back b.next hp hq (sym a.all ∙ e ∙ b.all)
+    ranges_tell p q cs ds hp hq (inr (inl a)) (inr (inr b)) e =
+        absurd (both_not_shared p q a.back a.next b.back b.next hp hq a.apart b.together (sym a.all ∙ e ∙ b.all))
+    ranges_tell p q cs ds hp hq (inr (inr a)) (inl b) e = absurd (single_not_shared q.start p a.back a.next hq.start hp (sym b.all ∙ sym e ∙ a.all))
+    ranges_tell p q cs ds hp hq (inr (inr a)) (inr (inl b)) e =
+        absurd (both_not_shared q p b.back b.next a.back a.next hq hp b.apart a.together (sym b.all ∙ sym e ∙ a.all))
+    ranges_tell p q cs ds hp hq (inr (inr a)) (inr (inr b)) e =
+        shared_told p q a.back a.next b.back b.next hp hq a.together b.together (sym a.all ∙ e ∙ b.all)

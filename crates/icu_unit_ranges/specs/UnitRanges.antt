@@ -1,6 +1,7 @@
 -- What is written for a range of numbers with a unit (UTS 35 Part 3, Plural Ranges).
-use Rattle.std.specs.Prelude.{List, is_some, if◌then◌else◌}
+use Rattle.std.specs.Prelude.{ℕ, List, is_some, if◌then◌else◌}
 use Rattle.fixed_decimal.specs.declared.signs.Sign.{Sign}
+use Rattle.fixed_decimal.specs.declared.signs.Sign.TheVariants.{None as NoSign}
 use Rattle.writeable.specs.Events.{Event}
 use Rattle.icu_pattern.specs.Patterns.{PatternText}
 use Rattle.icu_plurals.specs.Elements.{Elements}
@@ -12,6 +13,7 @@ use Rattle.icu_decimal.specs.Decimal.{signed_events}
 use Rattle.icu_decimal_interface.specs.Nested.{ShownPair, pair_events}
 use Rattle.icu_dimension.specs.UnitPatterns.{unit_interpolated}
 use Rattle.icu_dimension.specs.Units.{units_framed}
+use Rattle.icu_ranges.specs.Approximately.{approximated}
 use Rattle.icu_ranges.specs.Joined.{joined}
 use Rattle.icu_unit_ranges.specs.PluralStyle.{PluralStyle, first_or}
 use Rattle.icu_unit_ranges.specs.Values.{range_category, value_for}
@@ -31,11 +33,18 @@ units_joined style symbols rules elements start_sign end_sign o start p end =
     unit_interpolated (range_unit elements (range_category style.plural_ranges rules o p))
     (joined style.style.separator (signed_events symbols start_sign start) (signed_events symbols end_sign end))
 
--- two numbers with their unit as a range; where both texts, each with its own unit, are one, the first alone
+-- a number with its unit, the approximately sign in front of its sign
+abbrev pub units_approximated : List ℕ → DecimalSymbols → List Rule → Elements PatternText → Sign → Operands → List Event → List Event
+units_approximated sign symbols rules elements number_sign o es =
+    units_framed symbols rules elements NoSign o (approximated sign (signed_events symbols number_sign es))
+
+-- two numbers with their unit as a range; where both texts, each with its own unit, are one, the first alone, with the
+-- approximately sign if that is wanted
 abbrev pub units_range_framed : PluralStyle → DecimalSymbols → List Rule → Elements PatternText → Sign → Sign → Operands → List Event →
     Operands → List Event → List Event
 units_range_framed style symbols rules elements start_sign end_sign o start p end =
     first_or style.style.fallback (units_framed symbols rules elements start_sign o start) (units_framed symbols rules elements end_sign p end)
+    (units_approximated style.style.separator.approximately symbols rules elements start_sign o start)
     (units_joined style symbols rules elements start_sign end_sign o start p end)
 
 -- what is written for two numbers as they are shown

@@ -33,7 +33,7 @@ pub(crate) fn is_single<A: Writeable, B: Writeable>(
 {
     match fallback {
         RangeIdentityFallback::Range => Ok(false),
-        RangeIdentityFallback::SingleValue => {
+        RangeIdentityFallback::SingleValue | RangeIdentityFallback::Approximately => {
             let first = text_bytes(alloc, start)?;
             let second = text_bytes(alloc, end)?;
             Ok(first.as_slice() == second.as_slice())

@@ -2,10 +2,12 @@
 
 ghost use Rattle.std.specs.Prelude.{◌≡◌, IfOk};
 ghost use Rattle.icu_decimal.specs.Decimal.{signed_events};
+ghost use Rattle.icu_dimension.specs.Units.{units_framed};
 ghost use Rattle.icu_ranges.specs.Joined.{joined};
+ghost use Rattle.icu_ranges.specs.Ranges.{single_of};
 ghost use Rattle.icu_ranges.specs.Writing.{WroteText};
 ghost use Rattle.icu_unit_ranges.specs.Recordings.{kept_events};
-ghost use Rattle.icu_unit_ranges.specs.UnitRanges.{range_unit, units_joined, units_range_framed};
+ghost use Rattle.icu_unit_ranges.specs.UnitRanges.{range_unit, units_approximated, units_joined, units_range_framed};
 ghost use Rattle.icu_unit_ranges.specs.Values.{range_category};
 
 use crate::given::{GivenNumber, WithSign, WithUnit};
@@ -13,11 +15,12 @@ use crate::plural_range_style::PluralRangeStyle;
 use crate::recording::Recording;
 use crate::single::{is_single, joined};
 use crate::unit_pattern::{range_unit, write_unit};
+use fixed_decimal::Sign;
 use icu_decimal::error::FormatError;
 use icu_decimal_interface::AbstractFormatter;
 use icu_dimension::UnitsFormatter;
 use icu_pattern::{Pattern, SinglePlaceholder};
-use icu_ranges::RangePattern;
+use icu_ranges::{Approximated, RangeIdentityFallback, RangePattern};
 use std::alloc::Global;
 use writeable::{EventWriter, OutOfMemory, WriteFault, Writeable};
 
@@ -91,6 +94,61 @@ fn write_both<F: AbstractFormatter, A: Writeable, B: Writeable, K: EventWriter>(
     }
 }
 
+/// Writes a number with a unit, the approximately sign in front of its sign.
+fn write_approximated<F: AbstractFormatter, A: Writeable, K: EventWriter>(
+    sign: &str,
+    units: &UnitsFormatter<F>,
+    given: &GivenNumber<'_, A>,
+    out: &mut K,
+) -> Result<(), WriteFault>
+    ensures { K.wrote out.old result (units_approximated sign.now (F.symbols units.now.formatter)
+        units.now.rules units.now.elements given.now.sign given.now.operands
+        (A.events given.now.number.now)) out.new }
+{
+    let signed = WithSign {
+        formatter: units.formatter(),
+        given,
+    };
+    let number = Approximated {
+        sign,
+        value: &signed,
+    };
+    let approximate = GivenNumber {
+        sign: Sign::None,
+        operands: given.operands,
+        number: &number,
+    };
+    WithUnit {
+        units,
+        given: &approximate,
+    }
+    .write_events(out)
+}
+
+/// Writes a number where both ends of a range have one text.
+fn write_alone<F: AbstractFormatter, A: Writeable, K: EventWriter>(
+    style: &PluralRangeStyle<'_>,
+    units: &UnitsFormatter<F>,
+    given: &GivenNumber<'_, A>,
+    out: &mut K,
+) -> Result<(), WriteFault>
+    ensures { K.wrote out.old result (single_of style.now.style.fallback
+        (units_framed (F.symbols units.now.formatter) units.now.rules units.now.elements
+        given.now.sign given.now.operands (A.events given.now.number.now))
+        (units_approximated style.now.style.pattern.now.approximately
+        (F.symbols units.now.formatter) units.now.rules units.now.elements given.now.sign
+        given.now.operands (A.events given.now.number.now))) out.new }
+{
+    match style.style.fallback {
+        RangeIdentityFallback::Approximately => {
+            write_approximated(style.style.pattern.approximately_sign(), units, given, out)
+        }
+        RangeIdentityFallback::SingleValue | RangeIdentityFallback::Range => {
+            WithUnit { units, given }.write_events(out)
+        }
+    }
+}
+
 /// Writes two numbers with a unit as a range.
 pub(crate) fn write_units<F: AbstractFormatter, A: Writeable, B: Writeable, K: EventWriter>(
     alloc: Global,
@@ -116,7 +174,7 @@ pub(crate) fn write_units<F: AbstractFormatter, A: Writeable, B: Writeable, K: E
     };
     let second = WithUnit { units, given: end };
     match is_single(alloc, style.style.fallback, &first, &second) {
-        Ok(true) => match first.write_events(out) {
+        Ok(true) => match write_alone(style, units, start, out) {
             Ok(()) => Ok(()),
             Err(WriteFault) => Err(FormatError::Sink),
         },

@@ -2,7 +2,7 @@
 
 use crate::tables::{TablesFile, push_heading};
 use clap::ArgMatches;
-use number_forms::Settings;
+use number_formatters::Settings;
 use number_skeleton::read_skeleton;
 use std::alloc::{AllocError, Global};
 

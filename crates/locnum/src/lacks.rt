@@ -6,7 +6,8 @@ use crate::held::{
 use crate::near::push_nearest;
 use icu_dimension_data::CurrencyCode;
 use icu_provider::NumberingSystem;
-use number_forms::{Kind, Settings, UnitWidth, push_reported};
+use number_formatters::{Kind, Settings, UnitWidth};
+use number_forms::push_reported;
 use serde_json::Value;
 use skeleton_settings::Notation;
 use std::alloc::{AllocError, Global};

@@ -14,8 +14,9 @@ use crate::words::{joined, nothing};
 use icu_unit_ranges::PluralRangeStyle;
 use locnum_lines::{Delimiter, FoundNumber, LineSettings, RecordState, Refusals, Report, RunError};
 use locnum_ranges::{RangeFields, column_named};
-use number_forms::{Form, Settings, StartError};
-use number_ranges::{RangeTextError, push_plural_range};
+use number_formatters::Settings;
+use number_forms::{Form, StartError};
+use number_ranges::{RangeTextError, push_range};
 use std::alloc::Global;
 
 /// What ranges of fields are written by.
@@ -157,7 +158,7 @@ impl RangeWriter<'_, '_> {
     ) -> Result<Report, RunError> {
         let alloc = rt.alloc();
         let mut range = Vec::new(alloc);
-        match push_plural_range(
+        match push_range(
             alloc,
             self.form,
             self.style,

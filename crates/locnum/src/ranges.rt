@@ -12,8 +12,9 @@ use icu_ranges::{PluralRanges, RangeIdentityFallback, RangePattern, RangeStyle};
 use icu_unit_ranges::PluralRangeStyle;
 use itoa::Buffer;
 use locnum_lines::{LineSettings, Refusals, Report, RunError, push_padded};
-use number_forms::{Form, Settings, StartError, push_reported};
-use number_ranges::{RangeTextError, push_plural_range};
+use number_formatters::Settings;
+use number_forms::{Form, StartError, push_reported};
+use number_ranges::{RangeTextError, push_range};
 use std::alloc::{AllocError, Global};
 use std::io::Write;
 use std::str;
@@ -87,7 +88,7 @@ impl RangeData {
         PluralRangeStyle {
             style: RangeStyle {
                 pattern: &self.pattern,
-                fallback: RangeIdentityFallback::SingleValue,
+                fallback: RangeIdentityFallback::Approximately,
             },
             plural_ranges: &self.plural_ranges,
         }
@@ -220,7 +221,7 @@ pub(crate) fn run_range(
     (start, end): (&str, &str),
 ) -> Result<Report, RunError> {
     let mut text = Vec::new(alloc);
-    match push_plural_range(
+    match push_range(
         alloc,
         form,
         style,

@@ -8,11 +8,11 @@ use Rattle.fixed_decimal.specs.Unsigned.{Unsigned}
 use Rattle.decimal_lines.specs.declared.single_text.TextError.{TextError}
 use Rattle.decimal_lines.specs.declared.single_text.TextError.TheVariants.{NotDecimal, TooManyDigits, Overflow, OutOfMemory}
 use Rattle.decimal_lines.specs.declared.mode.Mode.TheVariants.{Plain, Compact}
+use Rattle.number_formatters.specs.declared.formatter.Formatter.{Formatter}
+use Rattle.number_formatters.specs.declared.formatter.Formatter.TheVariants.{Numbers, ShortNumbers, Money, MoneyNamed, MoneyShort, Percent, Units}
+use Rattle.number_formatters.specs.declared.formatter.Formatter.TheVariants.{ShortMoney, ShortNamed, ShortUnits}
 use Rattle.number_forms.specs.Decimals.{scaled_decimal, shown_decimal}
 use Rattle.number_forms.specs.Forms.{FormData, form_events}
-use Rattle.number_forms.specs.declared.form.Formatter.{Formatter}
-use Rattle.number_forms.specs.declared.form.Formatter.TheVariants.{Numbers, ShortNumbers, Money, MoneyNamed, MoneyShort, Percent, Units}
-use Rattle.number_forms.specs.declared.form.Formatter.TheVariants.{ShortMoney, ShortNamed, ShortUnits}
 use Rattle.icu_dimension.specs.CompactMoney.{formatter_of}
 use Rattle.number_forms.specs.Reported.{reported}
 use Rattle.locnum_explain.specs.declared.settings.Settings.{Settings}

@@ -4,10 +4,10 @@ ghost use Rattle.std.specs.Prelude.{◌≡◌, ◌≢◌, ◌++◌, IfOk, Ok, On
 ghost use Rattle.std.specs.Result.{is_err};
 ghost use Rattle.fixed_decimal.specs.Size.{magnitude, place, size};
 ghost use Rattle.fixed_decimal.specs.Unsigned.{IsUnsigned};
+ghost use Rattle.number_formatters.specs.declared.formatter.Formatter.TheVariants.{MoneyNamed, Units};
 ghost use Rattle.number_forms.specs.Decimals.{scaled_decimal, shown_decimal};
 ghost use Rattle.number_forms.specs.Forms.{form_events, formatter_events};
 ghost use Rattle.number_forms.specs.Reported.{reported};
-ghost use Rattle.number_forms.specs.declared.form.Formatter.TheVariants.{MoneyNamed, Units};
 ghost use Rattle.locnum_explain.specs.Facts.{entry_line};
 ghost use Rattle.locnum_explain.specs.Lines.{detail_lines, fact_lines, form_explanation, outcome_lines, refusal_line, written_lines};
 
@@ -22,7 +22,8 @@ use decimal_lines::{Mode, TextError};
 use fixed_decimal::{Decimal, UnsignedDecimal};
 use icu_decimal::{CompactDecimalFormatter, DecimalFormatter};
 use icu_dimension::{LongCurrencyFormatter, UnitsFormatter};
-use number_forms::{Form, Formatter, Prepared, push_reported};
+use number_formatters::Formatter;
+use number_forms::{Form, Prepared, push_reported};
 use std::alloc::{AllocError, Global};
 use writeable::PartsText;
 

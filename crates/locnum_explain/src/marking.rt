@@ -13,7 +13,8 @@ use fixed_decimal::{Decimal, Sign};
 use icu_decimal::{CompactDecimalFormatter, FormattedUnsignedCompactDecimal};
 use icu_dimension::CompactCurrencyFormatter;
 use icu_dimension_data::SignedPattern;
-use number_forms::{Form, Formatter};
+use number_formatters::Formatter;
+use number_forms::Form;
 use std::alloc::{AllocError, Global};
 use writeable::{PartsText, Writeable};
 

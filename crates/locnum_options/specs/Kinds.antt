@@ -8,11 +8,11 @@ use Rattle.icu_dimension.specs.declared.options.CurrencySign.TheVariants.{Standa
 use Rattle.icu_dimension.specs.declared.options.Width.{Width}
 use Rattle.icu_dimension.specs.declared.options.Width.TheVariants as width
 use Rattle.icu_dimension_data.specs.Currency.{is_currency_code}
-use Rattle.number_forms.specs.declared.settings.Kind.{Kind}
-use Rattle.number_forms.specs.declared.settings.Kind.TheVariants.{Plain, Short, Long, Money, MoneyNamed, MoneyShort, Percent, Permille, Unit}
-use Rattle.number_forms.specs.declared.settings.UnitName.TheVariants as named
-use Rattle.number_forms.specs.declared.settings.UnitWidth.{UnitWidth}
-use Rattle.number_forms.specs.declared.settings.UnitWidth.TheVariants as unit
+use Rattle.number_formatters.specs.declared.settings.Kind.{Kind}
+use Rattle.number_formatters.specs.declared.settings.Kind.TheVariants.{Plain, Short, Long, Money, MoneyNamed, MoneyShort, Percent, Permille, Unit}
+use Rattle.number_formatters.specs.declared.settings.UnitName.TheVariants as named
+use Rattle.number_formatters.specs.declared.settings.UnitWidth.{UnitWidth}
+use Rattle.number_formatters.specs.declared.settings.UnitWidth.TheVariants as unit
 use Rattle.skeleton_settings.specs.declared.settings.Notation.{Notation}
 use Rattle.skeleton_settings.specs.declared.settings.Notation.TheVariants.{Simple, CompactShort, CompactLong}
 use Rattle.locnum_options.specs.Given.{flag_of, look_up, text_of}

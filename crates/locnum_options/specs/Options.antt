@@ -1,6 +1,6 @@
 -- What the options ask for.
 use Rattle.std.specs.Prelude.{◌≡◌, ℕ, Bool, ◌⊎◌, List, Option, Some, None, Result, Ok, Err, codes, if◌then◌else◌}
-use Rattle.number_forms.specs.Settings.{FormSettings}
+use Rattle.number_formatters.specs.Settings.{FormSettings}
 use Rattle.number_skeleton.specs.declared.fault.SkeletonFault.{SkeletonFault}
 use Rattle.skeleton_settings.specs.declared.settings.Skeleton.{Skeleton}
 use Rattle.locnum_lines.specs.Settings.{SettingsData}

@@ -5,9 +5,9 @@ use Rattle.std.specs.Cmp.Lexicographic.{pointwise}
 use Rattle.fixed_decimal.specs.declared.modes.SignedRoundingMode.{SignedRoundingMode}
 use Rattle.fixed_decimal.specs.declared.modes.SignedRoundingMode.TheVariants as signed
 use Rattle.fixed_decimal.specs.declared.modes.UnsignedRoundingMode.TheVariants as unsigned
+use Rattle.number_formatters.specs.declared.settings.Kind.{Kind}
+use Rattle.number_formatters.specs.declared.settings.Kind.TheVariants.{Plain, Short, Long, Money, MoneyNamed, MoneyShort, Percent, Permille, Unit}
 use Rattle.number_forms.specs.Shortened.{divides_one}
-use Rattle.number_forms.specs.declared.settings.Kind.{Kind}
-use Rattle.number_forms.specs.declared.settings.Kind.TheVariants.{Plain, Short, Long, Money, MoneyNamed, MoneyShort, Percent, Permille, Unit}
 use Rattle.skeleton_settings.specs.declared.settings.Precision.{Precision}
 use Rattle.locnum_options.specs.Given.{flag_of}
 use Rattle.locnum_options.specs.Kinds.{is_simple}

@@ -1,9 +1,9 @@
 -- The form of numbers: by a skeleton, or by the options for numbers.
 use Rattle.std.specs.Prelude.{◌≡◌, ℕ, Bool, false, not, ◌&&◌, List, Option, Some, None, Result, Ok, Err, codes, option_map}
 use Rattle.std.specs.Prelude.{if◌then◌else◌}
-use Rattle.number_forms.specs.Settings.{FormSettings}
-use Rattle.number_forms.specs.Skeleton.{settings_of}
-use Rattle.number_forms.specs.declared.skeleton.Unsupported.{Unsupported}
+use Rattle.number_formatters.specs.Settings.{FormSettings}
+use Rattle.number_formatters.specs.Skeleton.{settings_of}
+use Rattle.number_formatters.specs.declared.skeleton.Unsupported.{Unsupported}
 use Rattle.number_skeleton.specs.Data.{read}
 use Rattle.number_skeleton.specs.Tokens.{skeleton_of}
 use Rattle.number_skeleton.specs.declared.fault.SkeletonFault.{SkeletonFault}

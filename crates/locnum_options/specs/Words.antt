@@ -3,8 +3,8 @@ use Rattle.std.specs.Prelude.{ℕ, Bool, ◌||◌, ◌==◌, List, [], ◌∷◌
 use Rattle.std.specs.Cmp.Lexicographic.{pointwise}
 use Rattle.icu_provider.specs.NumberingSystem.{is_numbering_system}
 use Rattle.icu_decimal.specs.declared.options.GroupingStrategy.TheVariants as grouping
-use Rattle.number_forms.specs.declared.settings.FormGrouping.{FormGrouping}
-use Rattle.number_forms.specs.declared.settings.FormGrouping.TheVariants.{Strategy}
+use Rattle.number_formatters.specs.declared.settings.FormGrouping.{FormGrouping}
+use Rattle.number_formatters.specs.declared.settings.FormGrouping.TheVariants.{Strategy}
 use Rattle.fixed_decimal.specs.declared.signs.SignDisplay.{SignDisplay}
 use Rattle.fixed_decimal.specs.declared.signs.SignDisplay.TheVariants as sign
 use Rattle.locnum_lines.specs.declared.settings.Delimiter.{Delimiter}

@@ -4,7 +4,7 @@ ghost use Rattle.std.specs.Prelude.{◌≡◌};
 ghost use Rattle.locnum_options.specs.declared.fault.OptionFault.TheVariants.{OutOfMemory};
 
 use crate::beside::{NumberOption, name_of};
-use number_forms::Unsupported;
+use number_formatters::Unsupported;
 use number_skeleton::SkeletonFault;
 use std::alloc::{AllocError, AllocFailed};
 use thiserror::Error;

@@ -9,7 +9,7 @@ use crate::fault::OptionFault;
 use crate::given::Given;
 use icu_dimension::options::{CurrencySign, Width};
 use icu_dimension_data::CurrencyCode;
-use number_forms::{Kind, UnitName, UnitWidth};
+use number_formatters::{Kind, UnitName, UnitWidth};
 use skeleton_settings::Notation;
 
 /// Whether numbers are shortened, and by which patterns; in full by default.

@@ -16,7 +16,7 @@ use crate::padding::padding_named;
 use crate::settings::{ReadSkeleton, settings_given, skeleton_read};
 use crate::words::{field_end_given, refusals_given};
 use locnum_lines::{LineSettings, Padding, Source};
-use number_forms::Settings;
+use number_formatters::Settings;
 use std::alloc::Global;
 use std::marker::Model;
 

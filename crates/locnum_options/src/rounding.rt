@@ -7,7 +7,8 @@ ghost use Rattle.locnum_options.specs.Rounding.{half_mode_named, is_compact_kind
 use crate::fault::OptionFault;
 use crate::given::Given;
 use fixed_decimal::{SignedRoundingMode, UnsignedRoundingMode};
-use number_forms::{Kind, has_compact_increment};
+use number_formatters::Kind;
+use number_forms::has_compact_increment;
 use skeleton_settings::{Notation, Precision};
 
 /// The mode of a word that begins with `half-`.

@@ -14,7 +14,7 @@ use crate::rounding::{is_compact_kind, judged_mode, mode_given};
 use crate::scale::scale_given;
 use crate::words::{grouping_given, sign_given, system_given};
 use icu_provider::DataLocale;
-use number_forms::Settings;
+use number_formatters::Settings;
 use number_skeleton::{SkeletonFault, read_skeleton};
 use skeleton_settings::{Precision, Skeleton};
 use std::alloc::Global;

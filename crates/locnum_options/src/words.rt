@@ -9,7 +9,7 @@ use fixed_decimal::SignDisplay;
 use icu_decimal_options::options::GroupingStrategy;
 use icu_provider::NumberingSystem;
 use locnum_lines::{Delimiter, Refusals};
-use number_forms::FormGrouping;
+use number_formatters::FormGrouping;
 
 /// The numbering system; none by default.
 #[tactic(auto, unfolding(crate::specs::Words::system_given))]

@@ -21,11 +21,12 @@ use Rattle.icu_tables.specs.ForLocale.{AnswersAs, IsFor}
 use Rattle.icu_tables.specs.Tables.{TablesData, tables_of}
 use Rattle.decimal_lines.specs.ModeOfTables.{compact_options, plain_options}
 use Rattle.decimal_lines.proofs.OneLocale.{and_then_both, digits_same, preferably_same}
+use Rattle.number_formatters.specs.Grouped.{strategy_of, with_sizes}
+use Rattle.number_formatters.specs.Loaded.{compact_preferences, long_loaded, plain_loaded, preferences, short_loaded, symbols_of, system_digits}
+use Rattle.number_formatters.specs.Settings.{FormSettings}
+use Rattle.number_formatters.specs.declared.formatter.LoadedFormatter.{LoadedFormatter}
 use Rattle.number_forms.specs.Forms.{FormData}
-use Rattle.number_forms.specs.Grouped.{strategy_of, with_sizes}
-use Rattle.number_forms.specs.Loaded.{compact_preferences, long_loaded, plain_loaded, preferences, short_loaded, symbols_of, system_digits}
-use Rattle.number_forms.specs.Making.{StopsForm, read_then, start_error, started, table_error, with_tables}
-use Rattle.number_forms.specs.Settings.{FormSettings}
+use Rattle.number_forms.specs.Making.{StopsForm, form_started, read_then, start_error, table_error, with_tables}
 use Rattle.number_forms.specs.declared.error.StartError.{StartError}
 
 module _ (settings : FormSettings) (kept all : TablesData) (answers : AnswersAs settings.locale kept all) where
@@ -86,10 +87,12 @@ module _ (settings : FormSettings) (kept all : TablesData) (answers : AnswersAs 
   long-same = and_then_both _ _ _ _ (compact-same kept.long all.long answers.long (compact_options (strategy_of settings.grouping))) (λ f. refl)
 
 -- what is made of tables for a locale is made of the text
-pub with_tables-for : (locale text : List ℕ) (kept : TablesData) (load : TablesData → Result FormData Refusal) → IsFor locale kept (tables_of text)
-    → ((all : TablesData) → AnswersAs locale kept all → load kept ≡ load all) → with_tables text load ≡ started (load kept)
-with_tables-for locale text kept load (all, read, answers) same = ap (λ (r : Result TablesData TableError). read_then r (λ t. started (load t))) read
-    ∙ ap started (sym (same all answers))
+pub with_tables-for : (settings : FormSettings) (text : List ℕ) (kept : TablesData) (load : TablesData → Result LoadedFormatter Refusal)
+    → IsFor settings.locale kept (tables_of text) → ((all : TablesData) → AnswersAs settings.locale kept all → load kept ≡ load all)
+    → with_tables settings text load ≡ form_started settings (load kept)
+with_tables-for settings text kept load (all, read, answers) same =
+    ap (λ (r : Result TablesData TableError). read_then r (λ t. form_started settings (load t))) read
+    ∙ ap (form_started settings) (sym (same all answers))
 
 -- a rejected text makes nothing
 pub fails-stops : {X : Type 0} (e : TableError) (read : Result X TableError) (next : X → Result FormData StartError) → Fails e read
@@ -102,10 +105,10 @@ fails-stops (table.Entry key index fault) read next is = ap (λ r. read_then r n
 fails-stops table.OutOfMemory read next is = tt
 
 -- why there is no form if the tables reject
-pub refuses-stops : (kind : DataErrorKind) (context : List ℕ) (answer : Result FormData Refusal) → Refuses kind context answer
-    → StopsForm (start_error kind) (started answer)
-refuses-stops refusal.IdentifierNotFound context answer is = ap started is
-refuses-stops refusal.MarkerNotFound context answer is = ap started is
-refuses-stops refusal.InvalidRequest context answer is = ap started is
-refuses-stops refusal.Custom context answer is = ap started is
-refuses-stops refusal.OutOfMemory context answer is = tt
+pub refuses-stops : (settings : FormSettings) (kind : DataErrorKind) (context : List ℕ) (answer : Result LoadedFormatter Refusal)
+    → Refuses kind context answer → StopsForm (start_error kind) (form_started settings answer)
+refuses-stops settings refusal.IdentifierNotFound context answer is = ap (form_started settings) is
+refuses-stops settings refusal.MarkerNotFound context answer is = ap (form_started settings) is
+refuses-stops settings refusal.InvalidRequest context answer is = ap (form_started settings) is
+refuses-stops settings refusal.Custom context answer is = ap (form_started settings) is
+refuses-stops settings refusal.OutOfMemory context answer is = tt

@@ -25,27 +25,28 @@ use Rattle.icu_tables.specs.Tables.{TablesData}
 use Rattle.decimal_lines.specs.ModeOfTables.{plain_options}
 use Rattle.decimal_lines.proofs.OneLocale.{and_then_both, digits_same}
 use Rattle.number_rounding.specs.declared.rounding.Rounding.{Rounding}
-use Rattle.number_forms.specs.Forms.{FormData}
-use Rattle.number_forms.specs.Grouped.{strategy_of, with_sizes}
-use Rattle.number_forms.specs.Loaded.{amounts_rounding, compact_money_loaded}
-use Rattle.number_forms.specs.Loaded.{currency_loaded, currency_rounding, form_with, money_by, money_loaded}
-use Rattle.number_forms.specs.Loaded.{money_precision, money_rounded_loaded, money_short_loaded, named_loaded}
-use Rattle.number_forms.specs.Loaded.{names_loaded}
-use Rattle.number_forms.specs.Loaded.{percent_loaded, permille_loaded, preferences, symbols_for_money, system_digits, unit_loaded}
-use Rattle.number_forms.specs.Loaded.{unit_patterns}
-use Rattle.number_forms.specs.Making.{read_then, started, with_all}
-use Rattle.number_forms.specs.Settings.{FormSettings}
-use Rattle.number_forms.specs.declared.settings.UnitWidth.{UnitWidth}
-use Rattle.number_forms.specs.declared.settings.UnitWidth.TheVariants.{Long, Short, Narrow}
+use Rattle.number_formatters.specs.Grouped.{strategy_of, with_sizes}
+use Rattle.number_formatters.specs.Loaded.{amounts_rounding, compact_money_loaded}
+use Rattle.number_formatters.specs.Loaded.{currency_loaded, currency_rounding, money_by, money_loaded}
+use Rattle.number_formatters.specs.Loaded.{money_precision, money_rounded_loaded, money_short_loaded, named_loaded}
+use Rattle.number_formatters.specs.Loaded.{names_loaded}
+use Rattle.number_formatters.specs.Loaded.{percent_loaded, permille_loaded, preferences, symbols_for_money, system_digits, unit_loaded}
+use Rattle.number_formatters.specs.Loaded.{unit_patterns, with_rounding}
+use Rattle.number_formatters.specs.Settings.{FormSettings}
+use Rattle.number_formatters.specs.declared.formatter.LoadedFormatter.{LoadedFormatter}
+use Rattle.number_formatters.specs.declared.settings.UnitWidth.{UnitWidth}
+use Rattle.number_formatters.specs.declared.settings.UnitWidth.TheVariants.{Long, Short, Narrow}
+use Rattle.number_forms.specs.Making.{form_started, read_then, with_all}
 use Rattle.number_forms.proofs.Served.{numbers-same, preferred-same, symbols-same}
 
 -- what is made of all tables for a locale is made of the text
-pub with_all-for : (locale text : List ℕ) (kept : AllData) (load : TablesData → DimensionData → Result FormData Refusal)
-    → IsAllFor locale kept (all_tables_of text)
-    → ((all : AllData) → AllAnswersAs locale kept all → load kept.numbers kept.dimension ≡ load all.numbers all.dimension)
-    → with_all text load ≡ started (load kept.numbers kept.dimension)
-with_all-for locale text kept load (all, read, answers) same =
-    ap (λ (r : Result AllData TableError). read_then r (λ t. started (load t.numbers t.dimension))) read ∙ ap started (sym (same all answers))
+pub with_all-for : (settings : FormSettings) (text : List ℕ) (kept : AllData) (load : TablesData → DimensionData → Result LoadedFormatter Refusal)
+    → IsAllFor settings.locale kept (all_tables_of text)
+    → ((all : AllData) → AllAnswersAs settings.locale kept all → load kept.numbers kept.dimension ≡ load all.numbers all.dimension)
+    → with_all settings text load ≡ form_started settings (load kept.numbers kept.dimension)
+with_all-for settings text kept load (all, read, answers) same =
+    ap (λ (r : Result AllData TableError). read_then r (λ t. form_started settings (load t.numbers t.dimension))) read
+    ∙ ap (form_started settings) (sym (same all answers))
 
 module _ (settings : FormSettings) (kept all : AllData) (answers : AllAnswersAs settings.locale kept all) where
   -- the symbols for numbers of money
@@ -124,7 +125,7 @@ module _ (settings : FormSettings) (kept all : AllData) (answers : AllAnswersAs 
       ≡ money_rounded_loaded settings code options rounding all.numbers all.dimension
   unfolding money_rounded_loaded
   money_rounded-same code options rounding =
-      and_then_both _ _ _ (λ f. Ok (form_with settings None (money_by f rounding))) (compact_money-same code options) (λ f. refl)
+      and_then_both _ _ _ (λ f. Ok (with_rounding None (money_by f rounding))) (compact_money-same code options) (λ f. refl)
 
   pub money_short-same : (code : List ℕ) (options : CurrencyFormatterOptions)
       → money_short_loaded settings code options kept.numbers kept.dimension ≡ money_short_loaded settings code options all.numbers all.dimension

@@ -22,15 +22,15 @@ use Rattle.icu_table_entries.specs.Named.{NamedEntry}
 use Rattle.decimal_lines.specs.ModeOfTables.{compact_options}
 use Rattle.decimal_lines.proofs.OneLocale.{and_then_both}
 use Rattle.number_rounding.specs.declared.rounding.Rounding.{Rounding}
-use Rattle.number_forms.specs.Forms.{FormData}
-use Rattle.number_forms.specs.Grouped.{strategy_of}
-use Rattle.number_forms.specs.Loaded.{compact_names_loaded, compact_precision, compact_preferences, compact_unit_loaded, form_with}
-use Rattle.number_forms.specs.Loaded.{long_names_loaded, named_by_notation, named_long_loaded, named_short_loaded, preferences, rounding_to}
-use Rattle.number_forms.specs.Loaded.{short_names_loaded, symbols_for_money, system_digits, unit_by_notation, unit_long_loaded, unit_patterns}
-use Rattle.number_forms.specs.Loaded.{unit_short_loaded}
-use Rattle.number_forms.specs.Settings.{FormSettings}
-use Rattle.number_forms.specs.declared.form.Formatter.TheVariants.{ShortNamed, ShortUnits}
-use Rattle.number_forms.specs.declared.settings.UnitWidth.{UnitWidth}
+use Rattle.number_formatters.specs.Grouped.{strategy_of}
+use Rattle.number_formatters.specs.Loaded.{compact_names_loaded, compact_precision, compact_preferences, compact_unit_loaded}
+use Rattle.number_formatters.specs.Loaded.{long_names_loaded, named_by_notation, named_long_loaded, named_short_loaded, preferences, rounding_to}
+use Rattle.number_formatters.specs.Loaded.{short_names_loaded, symbols_for_money, system_digits, unit_by_notation, unit_long_loaded, unit_patterns}
+use Rattle.number_formatters.specs.Loaded.{unit_short_loaded, with_rounding}
+use Rattle.number_formatters.specs.Settings.{FormSettings}
+use Rattle.number_formatters.specs.declared.formatter.Formatter.TheVariants.{ShortNamed, ShortUnits}
+use Rattle.number_formatters.specs.declared.formatter.LoadedFormatter.{LoadedFormatter}
+use Rattle.number_formatters.specs.declared.settings.UnitWidth.{UnitWidth}
 use Rattle.skeleton_settings.specs.declared.settings.Notation.{Notation}
 use Rattle.skeleton_settings.specs.declared.settings.Notation.TheVariants.{Simple, CompactShort, CompactLong}
 use Rattle.number_forms.proofs.ServedAll.{currency_rounding-same, money_numbers-same, named-same, unit-same, unit_patterns-same}
@@ -97,10 +97,10 @@ module _ (settings : FormSettings) (kept all : AllData) (answers : AllAnswersAs 
   named_short-same code = and_then_both _ _ (made kept) (made all) (currency_rounding-same settings kept all answers code) (λ rounding.
       and_then_both _ _ (form rounding) (form rounding) (short_names-same code) (λ f. refl))
     where
-      form : Rounding → PluralFormat CompactFormat NameText → Result FormData Refusal
-      form rounding f = Ok (form_with settings None (ShortNamed f rounding))
+      form : Rounding → PluralFormat CompactFormat NameText → Result LoadedFormatter Refusal
+      form rounding f = Ok (with_rounding None (ShortNamed f rounding))
 
-      made : AllData → Rounding → Result FormData Refusal
+      made : AllData → Rounding → Result LoadedFormatter Refusal
       made tables rounding = and_then (short_names_loaded settings code tables.numbers tables.dimension) (form rounding)
 
   named_long-same : (code : List ℕ)
@@ -109,10 +109,10 @@ module _ (settings : FormSettings) (kept all : AllData) (answers : AllAnswersAs 
   named_long-same code = and_then_both _ _ (made kept) (made all) (currency_rounding-same settings kept all answers code) (λ rounding.
       and_then_both _ _ (form rounding) (form rounding) (long_names-same code) (λ f. refl))
     where
-      form : Rounding → PluralFormat CompactFormat NameText → Result FormData Refusal
-      form rounding f = Ok (form_with settings None (ShortNamed f rounding))
+      form : Rounding → PluralFormat CompactFormat NameText → Result LoadedFormatter Refusal
+      form rounding f = Ok (with_rounding None (ShortNamed f rounding))
 
-      made : AllData → Rounding → Result FormData Refusal
+      made : AllData → Rounding → Result LoadedFormatter Refusal
       made tables rounding = and_then (long_names_loaded settings code tables.numbers tables.dimension) (form rounding)
 
   -- amounts with the name of a currency
@@ -143,8 +143,8 @@ module _ (settings : FormSettings) (kept all : AllData) (answers : AllAnswersAs 
       with_numbers : AllData → CompactFormat → Result (PluralFormat CompactFormat PatternText) Refusal
       with_numbers tables f = and_then (optional_answer tables.numbers.rules (locale_id settings.locale)) (with_rules tables f)
 
-      form : PluralFormat CompactFormat PatternText → Result FormData Refusal
-      form f = Ok (form_with settings None (ShortUnits f (rounding_to settings (compact_precision settings.precision))))
+      form : PluralFormat CompactFormat PatternText → Result LoadedFormatter Refusal
+      form f = Ok (with_rounding None (ShortUnits f (rounding_to settings (compact_precision settings.precision))))
 
   unit_short-same : (name : List ℕ) (width : UnitWidth)
       → unit_short_loaded settings name width kept.numbers kept.dimension ≡ unit_short_loaded settings name width all.numbers all.dimension

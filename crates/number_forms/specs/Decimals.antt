@@ -5,9 +5,9 @@ use Rattle.fixed_decimal.specs.Unsigned.{Unsigned}
 use Rattle.writeable.specs.Events.{Event}
 use Rattle.decimal_lines.specs.SingleText.{decimal_read}
 use Rattle.decimal_lines.specs.declared.single_text.TextError.{TextError}
+use Rattle.number_formatters.specs.declared.formatter.Formatter.{Formatter}
 use Rattle.number_forms.specs.Forms.{FormData, ◌>>=◌, form_rounded, formatter_events, signed}
 use Rattle.number_forms.specs.Scaled.{scaled}
-use Rattle.number_forms.specs.declared.form.Formatter.{Formatter}
 
 -- the number that a form rounds for a text, with the sign of the text
 unfoldable pub scaled_decimal : FormData → List ℕ → Result (Sign × Unsigned) TextError

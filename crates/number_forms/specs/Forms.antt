@@ -14,14 +14,14 @@ use Rattle.decimal_lines.specs.SingleText.{decimal_read, mode_events}
 use Rattle.decimal_lines.specs.declared.single_text.TextError.{TextError}
 use Rattle.number_rounding.specs.declared.rounding.Rounding.{Rounding}
 use Rattle.icu_dimension.specs.CompactMoney.{formatter_of}
+use Rattle.number_formatters.specs.declared.formatter.Formatter.{Formatter}
+use Rattle.number_formatters.specs.declared.formatter.Formatter.TheVariants.{Numbers, ShortNumbers, Money, MoneyNamed, MoneyShort, Percent, Units}
+use Rattle.number_formatters.specs.declared.formatter.Formatter.TheVariants.{ShortMoney, ShortNamed, ShortUnits}
 use Rattle.number_forms.specs.CompactMoney.{compact_money_events}
 use Rattle.number_forms.specs.Rounded.{rounded}
 use Rattle.number_forms.specs.Scaled.{scaled}
 use Rattle.number_forms.specs.Shortened.{shortened_events, shortened_number}
 use Rattle.number_forms.specs.ShortenedWith.{money_shortened, names_shortened, units_shortened}
-use Rattle.number_forms.specs.declared.form.Formatter.{Formatter}
-use Rattle.number_forms.specs.declared.form.Formatter.TheVariants.{Numbers, ShortNumbers, Money, MoneyNamed, MoneyShort, Percent, Units}
-use Rattle.number_forms.specs.declared.form.Formatter.TheVariants.{ShortMoney, ShortNamed, ShortUnits}
 
 -- by which power of ten numbers are multiplied; how they are rounded, if they are; which signs are shown; and what writes
 pub record FormData : Type 0 where

@@ -1,6 +1,3 @@
-pub mod Settings
-pub mod Grouped
-pub mod Skeleton
 pub mod Rounded
 pub mod Cut
 pub mod CompactMoney
@@ -9,7 +6,6 @@ pub mod Shortened
 pub mod ShortenedWith
 pub mod Forms
 pub mod WrittenOr
-pub mod Loaded
 pub mod Making
 pub mod Decimals
 pub mod Characters

@@ -6,15 +6,17 @@ use Rattle.icu_provider.specs.declared.error.DataErrorKind.TheVariants as refusa
 use Rattle.icu_table_entries.specs.declared.error.TableError.{TableError}
 use Rattle.icu_table_entries.specs.declared.error.TableError.TheVariants as table
 use Rattle.icu_tables.specs.Tables.{TablesData, tables_of}
+use Rattle.icu_decimal.specs.Loaded.{and_then}
 use Rattle.icu_dimension_tables.specs.AllTables.{all_tables_of}
 use Rattle.icu_dimension_tables.specs.DimensionTables.{DimensionData}
+use Rattle.number_formatters.specs.Loaded.{compact_money_options, long_loaded, money_loaded, money_options, money_short_loaded, named_by_notation}
+use Rattle.number_formatters.specs.Loaded.{percent_loaded, permille_loaded, plain_loaded, short_loaded, unit_by_notation}
+use Rattle.number_formatters.specs.Settings.{FormSettings, unit_text}
+use Rattle.number_formatters.specs.declared.formatter.LoadedFormatter.{LoadedFormatter}
+use Rattle.number_formatters.specs.declared.settings.Kind.TheVariants.{Plain, Short, Long, Money, MoneyNamed, MoneyShort, Percent, Permille, Unit as WithUnit}
 use Rattle.number_forms.specs.Forms.{FormData}
-use Rattle.number_forms.specs.Loaded.{compact_money_options, long_loaded, money_loaded, money_options, money_short_loaded, named_by_notation}
-use Rattle.number_forms.specs.Loaded.{percent_loaded, permille_loaded, plain_loaded, short_loaded, unit_by_notation}
-use Rattle.number_forms.specs.Settings.{FormSettings, unit_text}
 use Rattle.number_forms.specs.declared.error.StartError.{StartError}
 use Rattle.number_forms.specs.declared.error.StartError.TheVariants as start
-use Rattle.number_forms.specs.declared.settings.Kind.TheVariants.{Plain, Short, Long, Money, MoneyNamed, MoneyShort, Percent, Permille, Unit as WithUnit}
 
 -- There is no form for this reason; `OutOfMemory` may be reported in place of any result.
 abbrev pub StopsForm : {X : Type 0} → StartError → Result X StartError → Type 0
@@ -55,24 +57,37 @@ abbrev pub read_then : {X Y : Type 0} → Result X TableError → (X → Result 
 read_then (Ok x) next = next x
 read_then (Err e) next = Err (start.Refused e)
 
--- what is made of the tables of numbers of a text
-abbrev pub with_tables : List ℕ → (TablesData → Result FormData Refusal) → Result FormData StartError
-with_tables text load = read_then (tables_of text) (λ tables. started (load tables))
+-- the form of settings with a formatter that tables make
+abbrev pub form_with : FormSettings → LoadedFormatter → FormData
+form_with settings loaded = record {
+  scale = settings.scale;
+  rounding = loaded.rounding;
+  sign = settings.sign;
+  formatter = loaded.formatter;
+}
 
--- what is made of all tables of a text
-abbrev pub with_all : List ℕ → (TablesData → DimensionData → Result FormData Refusal) → Result FormData StartError
-with_all text load = read_then (all_tables_of text) (λ all. started (load all.numbers all.dimension))
+-- the form of settings with what tables answer, or why there is none
+abbrev pub form_started : FormSettings → Result LoadedFormatter Refusal → Result FormData StartError
+form_started settings answer = started (and_then answer (λ loaded. Ok (form_with settings loaded)))
+
+-- the form of settings by the tables of numbers of a text
+abbrev pub with_tables : FormSettings → List ℕ → (TablesData → Result LoadedFormatter Refusal) → Result FormData StartError
+with_tables settings text load = read_then (tables_of text) (λ tables. form_started settings (load tables))
+
+-- the form of settings by all tables of a text
+abbrev pub with_all : FormSettings → List ℕ → (TablesData → DimensionData → Result LoadedFormatter Refusal) → Result FormData StartError
+with_all settings text load = read_then (all_tables_of text) (λ all. form_started settings (load all.numbers all.dimension))
 
 -- the form that is wanted, by the text of the tables; those of money, percents and units are read where they are asked
 unfoldable pub form_of : FormSettings → List ℕ → Result FormData StartError
 form_of settings text = elim settings.kind [
-  | Plain ↦ with_tables text (plain_loaded settings)
-  | Short ↦ with_tables text (short_loaded settings)
-  | Long ↦ with_tables text (long_loaded settings)
-  | Money code width sign is_cash ↦ with_all text (money_loaded settings code (money_options settings.grouping width sign) is_cash)
-  | MoneyNamed code is_cash notation ↦ with_all text (named_by_notation notation settings code is_cash)
-  | MoneyShort code width sign ↦ with_all text (money_short_loaded settings code (compact_money_options settings.grouping width sign))
-  | Percent ↦ with_all text (percent_loaded settings)
-  | Permille ↦ with_all text (permille_loaded settings)
-  | WithUnit unit width notation ↦ with_all text (unit_by_notation notation settings (unit_text unit) width)
+  | Plain ↦ with_tables settings text (plain_loaded settings)
+  | Short ↦ with_tables settings text (short_loaded settings)
+  | Long ↦ with_tables settings text (long_loaded settings)
+  | Money code width sign is_cash ↦ with_all settings text (money_loaded settings code (money_options settings.grouping width sign) is_cash)
+  | MoneyNamed code is_cash notation ↦ with_all settings text (named_by_notation notation settings code is_cash)
+  | MoneyShort code width sign ↦ with_all settings text (money_short_loaded settings code (compact_money_options settings.grouping width sign))
+  | Percent ↦ with_all settings text (percent_loaded settings)
+  | Permille ↦ with_all settings text (permille_loaded settings)
+  | WithUnit unit width notation ↦ with_all settings text (unit_by_notation notation settings (unit_text unit) width)
 ]

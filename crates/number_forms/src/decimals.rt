@@ -1,10 +1,11 @@
 //! The decimal that a form writes for a text, and what writes it.
 
-use crate::form::{Form, Formatter};
+use crate::form::Form;
 use crate::rounded::{form_round, signed};
 use crate::scaled::scale;
 use decimal_lines::{TextError, read_decimal};
 use fixed_decimal::Decimal;
+use number_formatters::Formatter;
 use std::alloc::Global;
 
 /// The number of a text: as it was read, and as a form writes it, rounded and with its sign (this

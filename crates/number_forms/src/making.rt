@@ -6,28 +6,27 @@ ghost use Rattle.icu_tables.specs.ForLocale.{IsFor};
 ghost use Rattle.icu_tables.specs.Tables.{TablesData, tables_of};
 ghost use Rattle.icu_dimension_tables.specs.AllTables.{AllData, all_tables_of};
 ghost use Rattle.icu_dimension_tables.specs.ForLocale.{IsAllFor};
+ghost use Rattle.number_formatters.specs.Settings.{unit_text};
+ghost use Rattle.number_formatters.specs.Loaded.{compact_money_options, long_loaded, money_loaded, money_options, money_short_loaded, named_by_notation, percent_loaded, permille_loaded};
+ghost use Rattle.number_formatters.specs.Loaded.{plain_loaded, short_loaded, unit_by_notation};
+ghost use Rattle.number_formatters.specs.declared.formatter.LoadedFormatter.{LoadedFormatter};
 ghost use Rattle.number_forms.specs.Forms.{FormData};
-ghost use Rattle.number_forms.specs.Settings.{unit_text};
-ghost use Rattle.number_forms.specs.Loaded.{compact_money_options, long_loaded, money_loaded, money_options, money_short_loaded, named_by_notation, percent_loaded, permille_loaded};
-ghost use Rattle.number_forms.specs.Loaded.{plain_loaded, short_loaded, unit_by_notation};
-ghost use Rattle.number_forms.specs.Making.{StartsForm, StopsForm, form_of, read_then, start_error, started, table_error, with_all, with_tables};
+ghost use Rattle.number_forms.specs.Making.{StartsForm, StopsForm, form_of, form_started, form_with, read_then, start_error, table_error, with_all};
+ghost use Rattle.number_forms.specs.Making.{with_tables};
 
 use crate::error::StartError;
 use crate::form::Form;
-use crate::grouped::strategy_of;
-use crate::loading::{load_money, load_percent, load_permille, load_plain};
-use crate::loading_compact::{
-    compact_money_options, load_money_short, load_named_by, load_unit_by,
-};
-use crate::loading_short::{load_long, load_short};
-use crate::settings::{Kind, Settings, UnitName, UnitWidth};
-use decimal_lines::plain_options;
 use icu_dimension::options::{CurrencyFormatterOptions, CurrencySign, Width};
 use icu_dimension_data::CurrencyCode;
 use icu_dimension_tables::AllTables;
 use icu_provider::{DataError, DataErrorKind};
 use icu_table_entries::TableError;
 use icu_tables::Tables;
+use number_formatters::{
+    Kind, LoadedFormatter, Settings, UnitName, UnitWidth, compact_money_options, load_long,
+    load_money, load_money_short, load_named_by, load_percent, load_permille, load_plain,
+    load_short, load_unit_by, money_options,
+};
 use skeleton_settings::Notation;
 use std::alloc::Global;
 use std::str;
@@ -52,13 +51,28 @@ fn table_error(error: TableError) -> StartError
     }
 }
 
-/// The form that tables answer, or why there is none.
-fn started(loaded: Result<Form, DataError>) -> Result<Form, StartError>
-    ensures { (answer : Result FormData Refusal) → Answers loaded answer → StartsForm result
-        (started answer) }
+/// The form of settings with a formatter that tables make.
+fn form_with(settings: &Settings<'_>, loaded: LoadedFormatter) -> Form
+    ensures { result ≡ form_with settings.now loaded }
+{
+    Form {
+        scale: settings.scale,
+        rounding: loaded.rounding,
+        sign: settings.sign,
+        formatter: loaded.formatter,
+    }
+}
+
+/// The form of settings with what tables answer, or why there is none.
+fn started(
+    settings: &Settings<'_>,
+    loaded: Result<LoadedFormatter, DataError>,
+) -> Result<Form, StartError>
+    ensures { (answer : Result LoadedFormatter Refusal) → Answers loaded answer → StartsForm result
+        (form_started settings.now answer) }
 {
     match loaded {
-        Ok(form) => Ok(form),
+        Ok(loaded) => Ok(form_with(settings, loaded)),
         Err(error) => Err(start_error(error)),
     }
 }
@@ -90,26 +104,26 @@ fn all_in(alloc: Global, settings: &Settings<'_>, text: &str) -> Result<AllTable
 
 /// Numbers in full, by a text of tables.
 fn plain_form(alloc: Global, settings: &Settings<'_>, text: &str) -> Result<Form, StartError>
-    ensures { StartsForm result (with_tables text.now (plain_loaded settings.now)) }
+    ensures { StartsForm result (with_tables settings.now text.now (plain_loaded settings.now)) }
 {
     let tables = tables_in(alloc, settings, text)?;
-    started(load_plain(alloc, &tables, settings))
+    started(settings, load_plain(alloc, &tables, settings))
 }
 
 /// Numbers shortened by the short patterns, by a text of tables.
 fn short_form(alloc: Global, settings: &Settings<'_>, text: &str) -> Result<Form, StartError>
-    ensures { StartsForm result (with_tables text.now (short_loaded settings.now)) }
+    ensures { StartsForm result (with_tables settings.now text.now (short_loaded settings.now)) }
 {
     let tables = tables_in(alloc, settings, text)?;
-    started(load_short(alloc, &tables, settings))
+    started(settings, load_short(alloc, &tables, settings))
 }
 
 /// Numbers shortened by the long patterns, by a text of tables.
 fn long_form(alloc: Global, settings: &Settings<'_>, text: &str) -> Result<Form, StartError>
-    ensures { StartsForm result (with_tables text.now (long_loaded settings.now)) }
+    ensures { StartsForm result (with_tables settings.now text.now (long_loaded settings.now)) }
 {
     let tables = tables_in(alloc, settings, text)?;
-    started(load_long(alloc, &tables, settings))
+    started(settings, load_long(alloc, &tables, settings))
 }
 
 /// Amounts of a currency, by a text of tables.
@@ -122,10 +136,13 @@ fn money_form(
     is_cash: bool,
 ) -> Result<Form, StartError>
     ensures { StartsForm result
-        (with_all text.now (money_loaded settings.now code options is_cash)) }
+        (with_all settings.now text.now (money_loaded settings.now code options is_cash)) }
 {
     let all = all_in(alloc, settings, text)?;
-    started(load_money(alloc, &all, settings, code, options, is_cash))
+    started(
+        settings,
+        load_money(alloc, &all, settings, code, options, is_cash),
+    )
 }
 
 /// Amounts with the name of a currency, by a text of tables.
@@ -138,10 +155,13 @@ fn named_form(
     notation: Notation,
 ) -> Result<Form, StartError>
     ensures { StartsForm result
-        (with_all text.now (named_by_notation notation settings.now code is_cash)) }
+        (with_all settings.now text.now (named_by_notation notation settings.now code is_cash)) }
 {
     let all = all_in(alloc, settings, text)?;
-    started(load_named_by(alloc, &all, settings, code, is_cash, notation))
+    started(
+        settings,
+        load_named_by(alloc, &all, settings, code, is_cash, notation),
+    )
 }
 
 /// Compact amounts of a currency, by a text of tables.
@@ -153,26 +173,29 @@ fn money_short_form(
     options: CurrencyFormatterOptions,
 ) -> Result<Form, StartError>
     ensures { StartsForm result
-        (with_all text.now (money_short_loaded settings.now code options)) }
+        (with_all settings.now text.now (money_short_loaded settings.now code options)) }
 {
     let all = all_in(alloc, settings, text)?;
-    started(load_money_short(alloc, &all, settings, code, options))
+    started(
+        settings,
+        load_money_short(alloc, &all, settings, code, options),
+    )
 }
 
 /// Percents, by a text of tables.
 fn percent_form(alloc: Global, settings: &Settings<'_>, text: &str) -> Result<Form, StartError>
-    ensures { StartsForm result (with_all text.now (percent_loaded settings.now)) }
+    ensures { StartsForm result (with_all settings.now text.now (percent_loaded settings.now)) }
 {
     let all = all_in(alloc, settings, text)?;
-    started(load_percent(alloc, &all, settings))
+    started(settings, load_percent(alloc, &all, settings))
 }
 
 /// Permilles, by a text of tables.
 fn permille_form(alloc: Global, settings: &Settings<'_>, text: &str) -> Result<Form, StartError>
-    ensures { StartsForm result (with_all text.now (permille_loaded settings.now)) }
+    ensures { StartsForm result (with_all settings.now text.now (permille_loaded settings.now)) }
 {
     let all = all_in(alloc, settings, text)?;
-    started(load_permille(alloc, &all, settings))
+    started(settings, load_permille(alloc, &all, settings))
 }
 
 /// Numbers with a unit, by a text of tables.
@@ -185,10 +208,13 @@ fn unit_form(
     notation: Notation,
 ) -> Result<Form, StartError>
     ensures { StartsForm result
-        (with_all text.now (unit_by_notation notation settings.now name.now width)) }
+        (with_all settings.now text.now (unit_by_notation notation settings.now name.now width)) }
 {
     let all = all_in(alloc, settings, text)?;
-    started(load_unit_by(alloc, &all, settings, name, width, notation))
+    started(
+        settings,
+        load_unit_by(alloc, &all, settings, name, width, notation),
+    )
 }
 
 /// Compact amounts of a currency with a symbol, by a text of tables.
@@ -200,7 +226,8 @@ fn money_short_with(
     width: Width,
     sign: CurrencySign,
 ) -> Result<Form, StartError>
-    ensures { StartsForm result (with_all text.now (money_short_loaded settings.now code
+    ensures { StartsForm result (with_all settings.now text.now
+        (money_short_loaded settings.now code
         (compact_money_options settings.now.grouping width sign))) }
 {
     let options = compact_money_options(settings.grouping, width, sign);
@@ -216,7 +243,7 @@ fn unit_named(
     width: UnitWidth,
     notation: Notation,
 ) -> Result<Form, StartError>
-    ensures { StartsForm result (with_all text.now
+    ensures { StartsForm result (with_all settings.now text.now
         (unit_by_notation notation settings.now (unit_text unit.entry) width)) }
 {
     unit_form(alloc, settings, text, unit.text(), width, notation)
@@ -258,21 +285,6 @@ fn form_of(alloc: Global, settings: &Settings<'_>, text: &str) -> Result<Form, S
     }
 }
 
-/// The options of money.
-fn money_options(
-    settings: &Settings<'_>,
-    width: Width,
-    sign: CurrencySign,
-) -> CurrencyFormatterOptions
-    ensures { result ≡ money_options settings.now.grouping width sign }
-{
-    CurrencyFormatterOptions {
-        decimal: plain_options(strategy_of(settings.grouping)),
-        width,
-        sign,
-    }
-}
-
 impl Form {
     ghost use Rattle.std.specs.Prelude.{◌≡◌, Err};
     ghost use Rattle.std.specs.Str.{IsUtf8};
@@ -284,7 +296,7 @@ impl Form {
     /// of numbers first, and then, for money, percents and units, of theirs; `NoData` if the tables
     /// lack data that the form needs; `OutOfMemory` if an allocation fails.
     // promise: Options and tables determine the form, or why there is none.
-    // mutations: money_digits_of_cash_exchanged, cash_step_left_out
+    // mutations: compact_money_in_full
     pub fn of(alloc: Global, settings: &Settings<'_>, file: &[u8]) -> Result<Form, StartError>
         ensures text { IsUtf8 file.now → StartsForm result (form_of settings.now file.now) }
         ensures no_text { ¬ (IsUtf8 file.now) → result ≡ Err StartError.NotUtf8 }

@@ -13,7 +13,6 @@ ghost use Rattle.number_forms.specs.Rounded.{half_even_to, rounded, shown_number
 ghost use Rattle.number_forms.specs.Cut.{IsCut, IsCutRefusal};
 ghost use Rattle.number_forms.specs.Shortened.{shortened_number};
 
-use crate::form::Formatter;
 use crate::scaled::{has_no_zeros_before, scale_of, trimmed};
 use crate::shortened::shortened_number;
 use decimal_lines::TextError;
@@ -22,6 +21,7 @@ use fixed_decimal::{
 };
 use icu_decimal::CompactDecimalFormatter;
 use icu_pattern::SinglePlaceholder;
+use number_formatters::Formatter;
 use number_rounding::{Rounding, ShownError, shown};
 use skeleton_settings::Precision;
 use std::alloc::Global;

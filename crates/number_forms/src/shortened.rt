@@ -24,9 +24,14 @@ pub fn has_compact_increment(precision: &Precision) -> bool
     divides_one(precision)
 }
 
-/// What is shown of a number: a significand and an exponent. By an increment of which 1 is no
-/// multiple nothing is.
-pub(crate) fn shortened(
+/// What compact numbers by a rounding show of a number: a significand with the number's sign, and
+/// the exponent of its pattern (this project's own).
+///
+/// `Overflow` where the shown number is too large, and for an increment of which 1 is no multiple
+/// (see [`has_compact_increment`]).
+// promise: Significand and exponent are those of the shown number.
+// mutations: compact_number_always_rounded_down
+pub fn shorten(
     alloc: Global,
     rounding: &Rounding,
     formatter: &CompactDecimalFormatter,
@@ -68,7 +73,7 @@ pub(crate) fn shortened_number(
     ensures refused { IfErr result (λ error. IsRefusal (shortened_number rounding.now formatter.now
         decimal.now.sign decimal.now.absolute) error) }
 {
-    let shown = shortened(alloc, rounding, formatter, decimal)?;
+    let shown = shorten(alloc, rounding, formatter, decimal)?;
     let (mut number, exponent) = (shown.significand, shown.exponent);
     scale(alloc, &mut number, i16::from(exponent))?;
     Ok(number)
@@ -105,7 +110,7 @@ pub(crate) fn write_shortened<K: EventWriter>(
     ensures { WroteEvents K.wrote out.old result (shortened_events rounding.now formatter.now
         decimal.now.sign decimal.now.absolute) out.new }
 {
-    match shortened(alloc, rounding, formatter, decimal) {
+    match shorten(alloc, rounding, formatter, decimal) {
         Ok(shown) => write_given(formatter, &shown.significand, shown.exponent, out),
         Err(error) => Err(error),
     }

@@ -7,7 +7,7 @@ ghost use Rattle.icu_dimension.specs.CompactMoney.{formatter_of};
 ghost use Rattle.number_forms.specs.ShortenedWith.{money_given, money_shortened, names_given, names_shortened, operands_shown, units_given};
 ghost use Rattle.number_forms.specs.ShortenedWith.{units_shortened};
 
-use crate::shortened::shortened;
+use crate::shortened::shorten;
 use decimal_lines::TextError;
 use fixed_decimal::{Decimal, Sign};
 use icu_decimal::CompactDecimalFormatter;
@@ -130,7 +130,7 @@ pub(crate) fn write_units_shortened<K: EventWriter>(
     ensures { WroteEvents K.wrote out.old result (units_shortened rounding.now units.now
         decimal.now.sign decimal.now.absolute) out.new }
 {
-    match shortened(alloc, rounding, units.formatter(), decimal) {
+    match shorten(alloc, rounding, units.formatter(), decimal) {
         Ok(shown) => write_units_given(units, decimal.sign, &shown, out),
         Err(error) => Err(error),
     }
@@ -147,7 +147,7 @@ pub(crate) fn write_names_shortened<K: EventWriter>(
     ensures { WroteEvents K.wrote out.old result (names_shortened rounding.now names.now
         decimal.now.sign decimal.now.absolute) out.new }
 {
-    match shortened(alloc, rounding, names.formatter(), decimal) {
+    match shorten(alloc, rounding, names.formatter(), decimal) {
         Ok(shown) => write_names_given(names, decimal.sign, &shown, out),
         Err(error) => Err(error),
     }
@@ -185,7 +185,7 @@ pub(crate) fn write_money_shortened<K: EventWriter>(
     ensures { WroteEvents K.wrote out.old result (money_shortened rounding.now money.now
         decimal.now.sign decimal.now.absolute) out.new }
 {
-    match shortened(alloc, rounding, money.for_sign(decimal.sign), decimal) {
+    match shorten(alloc, rounding, money.for_sign(decimal.sign), decimal) {
         Ok(shown) => write_money_given(money, &shown, out),
         Err(error) => Err(error),
     }

@@ -4,11 +4,11 @@ ghost use Rattle.std.specs.Prelude.{◌≡◌, IfSome, None, Ok, pos};
 ghost use Rattle.fixed_decimal.specs.SignDisplay.{minus_or_none};
 ghost use Rattle.writeable.specs.Sink.{Writes};
 ghost use Rattle.decimal_lines.specs.SingleText.{WroteEvents, mode_events};
+ghost use Rattle.number_formatters.specs.declared.formatter.Formatter.TheVariants.{Money, MoneyNamed, MoneyShort, Numbers, Percent, Units};
 ghost use Rattle.number_forms.specs.Forms.{formatter_events};
 ghost use Rattle.number_forms.specs.WrittenOr.{written_or};
-ghost use Rattle.number_forms.specs.declared.form.Formatter.TheVariants.{Money, MoneyNamed, MoneyShort, Numbers, Percent, Units};
 
-use crate::form::{Form, Formatter};
+use crate::form::Form;
 use crate::rounded::{form_round, minus_or_none, signed};
 use crate::scaled::scale;
 use crate::shortened::write_shortened;
@@ -21,6 +21,7 @@ use icu_dimension::{
     CompactCurrencyFormatter, CurrencyFormatter, LongCurrencyFormatter, PercentFormatter,
     UnitsFormatter,
 };
+use number_formatters::Formatter;
 use std::alloc::Global;
 use writeable::{EventWriter, PartsText, PartsWrite, WithParts};
 

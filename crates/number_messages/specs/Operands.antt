@@ -13,11 +13,11 @@ use Rattle.decimal_lines.specs.declared.mode.Mode.{Mode}
 use Rattle.decimal_lines.specs.declared.mode.Mode.TheVariants.{Plain, Compact}
 use Rattle.number_rounding.specs.declared.rounding.Rounding.{Rounding}
 use Rattle.number_rounding.specs.Shown.{IsShown}
+use Rattle.number_formatters.specs.declared.formatter.Formatter.{Formatter}
+use Rattle.number_formatters.specs.declared.formatter.Formatter.TheVariants.{Numbers, ShortNumbers, Money, MoneyNamed, MoneyShort, Percent, Units}
+use Rattle.number_formatters.specs.declared.formatter.Formatter.TheVariants.{ShortMoney, ShortNamed, ShortUnits}
 use Rattle.number_forms.specs.Decimals.{shown_decimal}
 use Rattle.number_forms.specs.Forms.{FormData}
-use Rattle.number_forms.specs.declared.form.Formatter.{Formatter}
-use Rattle.number_forms.specs.declared.form.Formatter.TheVariants.{Numbers, ShortNumbers, Money, MoneyNamed, MoneyShort, Percent, Units}
-use Rattle.number_forms.specs.declared.form.Formatter.TheVariants.{ShortMoney, ShortNamed, ShortUnits}
 
 -- those of the compact number that a compact formatter shows
 pub record HasCompactOperands (format : CompactFormat) (u : Unsigned) (o : Operands) : Type 0 where

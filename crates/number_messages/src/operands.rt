@@ -10,7 +10,7 @@ use icu_decimal::CompactDecimalFormatter;
 use icu_decimal_data::laws::entries_are_a_compact_table;
 use icu_decimal_interface::AbstractFormatter;
 use icu_plurals::PluralOperands;
-use number_forms::Formatter;
+use number_formatters::Formatter;
 use number_rounding::{Rounding, divides_one, shown};
 use std::alloc::Global;
 

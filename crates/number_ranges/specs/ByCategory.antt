@@ -1,5 +1,5 @@
--- What a form writes for the range of two texts where ranges have plural categories: its events, or why there are none.
-use Rattle.std.specs.Prelude.{ℕ, List, Result, Ok, Err}
+-- What a form writes for the range of two texts: its events, or why there are none.
+use Rattle.std.specs.Prelude.{ℕ, List, Result, Ok}
 use Rattle.fixed_decimal.specs.declared.signs.Sign.{Sign}
 use Rattle.fixed_decimal.specs.Unsigned.{Unsigned}
 use Rattle.writeable.specs.Events.{Event}
@@ -11,28 +11,14 @@ use Rattle.icu_dimension.specs.PluralFormat.{PluralFormat}
 use Rattle.icu_unit_ranges.specs.NameRanges.{names_range_framed}
 use Rattle.icu_unit_ranges.specs.PluralStyle.{PluralStyle}
 use Rattle.icu_unit_ranges.specs.UnitRanges.{units_range_framed}
+use Rattle.number_formatters.specs.declared.formatter.Formatter.{Formatter}
+use Rattle.number_formatters.specs.declared.formatter.Formatter.TheVariants.{MoneyNamed, ShortNamed, Units, ShortUnits}
 use Rattle.number_forms.specs.Decimals.{scaled_decimal, shown_decimal}
 use Rattle.number_forms.specs.Forms.{FormData}
-use Rattle.number_forms.specs.declared.form.Formatter.{Formatter}
-use Rattle.number_forms.specs.declared.form.Formatter.TheVariants.{Numbers, ShortNumbers, Money, MoneyNamed, MoneyShort, Percent, Units}
-use Rattle.number_forms.specs.declared.form.Formatter.TheVariants.{ShortMoney, ShortNamed, ShortUnits}
 use Rattle.number_ranges.specs.declared.error.RangeTextError.{RangeTextError}
-use Rattle.number_ranges.specs.declared.error.RangeTextError.TheVariants.{Unsupported}
+use Rattle.number_ranges.specs.Compact.{names_shortened, units_shortened}
 use Rattle.number_ranges.specs.Ranges.{ascending, written_range}
 use Rattle.number_ranges.specs.Reported.{◌>>=◌, end_error, reported, start_error}
-
--- the ranges that are written: not those of compact numbers with a unit or with the name of a currency
-abbrev pub supported_by_category : Formatter → Result (Unit {0}) RangeTextError
-supported_by_category (Numbers mode) = Ok tt
-supported_by_category (ShortNumbers format by) = Ok tt
-supported_by_category (Money format) = Ok tt
-supported_by_category (MoneyNamed format) = Ok tt
-supported_by_category (MoneyShort format) = Ok tt
-supported_by_category (ShortMoney format by) = Ok tt
-supported_by_category (ShortNamed format by) = Err Unsupported
-supported_by_category (Percent format) = Ok tt
-supported_by_category (Units format) = Ok tt
-supported_by_category (ShortUnits format by) = Err Unsupported
 
 -- two numbers with a unit, in the pattern of their range
 abbrev pub units_written : PluralFormat DecimalFormat PatternText → PluralStyle → Sign × Unsigned → Sign × Unsigned → List Event
@@ -50,12 +36,13 @@ names_written format style start end = names_range_framed style format.formatter
 abbrev pub written_by_category : Formatter → PluralStyle → Sign × Unsigned → Sign × Unsigned → Result (List Event) RangeTextError
 written_by_category (Units format) style start end = Ok (units_written format style start end)
 written_by_category (MoneyNamed format) style start end = Ok (names_written format style start end)
+written_by_category (ShortUnits format by) style start end = units_shortened by format style start end
+written_by_category (ShortNamed format by) style start end = names_shortened by format style start end
 written_by_category formatter style start end = written_range formatter style.style start end
 
 -- what a form writes for the range of two texts: each is read, scaled and rounded; then the range is written
-unfoldable pub range_events_by_category : FormData → PluralStyle → List ℕ → List ℕ → Result (List Event) RangeTextError
-range_events_by_category form style start end = do
-  x ← supported_by_category form.formatter
+unfoldable pub range_events : FormData → PluralStyle → List ℕ → List ℕ → Result (List Event) RangeTextError
+range_events form style start end = do
   first ← reported start_error (shown_decimal form start)
   last ← reported end_error (shown_decimal form end)
   lower ← reported start_error (scaled_decimal form start)

@@ -1,4 +1,5 @@
 pub mod Reported
 pub mod Ranges
 pub mod WroteRange
+pub mod Compact
 pub mod ByCategory

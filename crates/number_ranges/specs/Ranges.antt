@@ -1,5 +1,5 @@
--- What a form writes for the range of two texts: its events, or why there are none.
-use Rattle.std.specs.Prelude.{ℕ, int_lt, List, Result, Ok, Err, if◌then◌else◌}
+-- Two decimals as a range, where ranges have no plural categories: its events, or why there are none.
+use Rattle.std.specs.Prelude.{int_lt, List, Result, Ok, Err, if◌then◌else◌}
 use Rattle.fixed_decimal.specs.declared.signed.Decimal.{Decimal}
 use Rattle.fixed_decimal.specs.declared.signs.Sign.{Sign}
 use Rattle.fixed_decimal.specs.Unsigned.{Unsigned}
@@ -8,27 +8,12 @@ use Rattle.icu_decimal_interface.specs.Shown.{plain_shown}
 use Rattle.icu_ranges.specs.Around.{amounts_of}
 use Rattle.icu_ranges.specs.Order.{signed_size}
 use Rattle.icu_ranges.specs.Ranges.{RangeStyle, range_of}
-use Rattle.number_forms.specs.Decimals.{scaled_decimal, shown_decimal}
-use Rattle.number_forms.specs.Forms.{FormData, formatter_events}
-use Rattle.number_forms.specs.declared.form.Formatter.{Formatter}
-use Rattle.number_forms.specs.declared.form.Formatter.TheVariants.{Numbers, ShortNumbers, Money, MoneyNamed, MoneyShort, Percent, Units}
-use Rattle.number_forms.specs.declared.form.Formatter.TheVariants.{ShortMoney, ShortNamed, ShortUnits}
+use Rattle.number_formatters.specs.declared.formatter.Formatter.{Formatter}
+use Rattle.number_formatters.specs.declared.formatter.Formatter.TheVariants.{Money, Percent}
+use Rattle.number_forms.specs.Forms.{formatter_events}
 use Rattle.number_ranges.specs.declared.error.RangeTextError.{RangeTextError}
-use Rattle.number_ranges.specs.declared.error.RangeTextError.TheVariants.{Unsupported, Descending}
+use Rattle.number_ranges.specs.declared.error.RangeTextError.TheVariants.{Descending}
 use Rattle.number_ranges.specs.Reported.{◌>>=◌, end_error, reported, start_error}
-
--- the ranges that are written: not those of numbers with a unit or with the name of a currency
-abbrev pub supported : Formatter → Result (Unit {0}) RangeTextError
-supported (Numbers mode) = Ok tt
-supported (ShortNumbers format by) = Ok tt
-supported (Money format) = Ok tt
-supported (MoneyNamed format) = Err Unsupported
-supported (MoneyShort format) = Ok tt
-supported (ShortMoney format by) = Ok tt
-supported (ShortNamed format by) = Err Unsupported
-supported (Percent format) = Ok tt
-supported (Units format) = Err Unsupported
-supported (ShortUnits format by) = Err Unsupported
 
 -- a number and its sign as a decimal
 abbrev pub as_decimal : Sign × Unsigned → Decimal
@@ -52,14 +37,3 @@ written_range (Money format) style start end = Ok (amounts_of style format.patte
 written_range (Percent format) style start end = Ok (amounts_of style format.patterns start.0 end.0
     (plain_shown format.formatter start.1).events (plain_shown format.formatter end.1).events)
 written_range formatter style start end = whole_range formatter style start end
-
--- what a form writes for the range of two texts: each is read, scaled and rounded; then the range is written
-unfoldable pub range_events : FormData → RangeStyle → List ℕ → List ℕ → Result (List Event) RangeTextError
-range_events form style start end = do
-  x ← supported form.formatter
-  first ← reported start_error (shown_decimal form start)
-  last ← reported end_error (shown_decimal form end)
-  lower ← reported start_error (scaled_decimal form start)
-  upper ← reported end_error (scaled_decimal form end)
-  y ← ascending lower upper
-  written_range form.formatter style first last

@@ -1,37 +1,21 @@
-//! What a form writes for the range of two texts where ranges have plural categories.
+//! What a form writes for the range of two texts.
 
 ghost use Rattle.std.specs.Prelude.{◌≡◌, ◌≢◌, IfErr, OnOk, Ok};
-ghost use Rattle.number_ranges.specs.ByCategory.{names_written, range_events_by_category, supported_by_category, units_written, written_by_category};
+ghost use Rattle.number_ranges.specs.ByCategory.{names_written, range_events, units_written, written_by_category};
 ghost use Rattle.number_ranges.specs.WroteRange.{AppendsRange, IsRefusal};
 
+use crate::compact::{push_compact_names, push_compact_units};
 use crate::ends::{ascending, end_of, start_of};
 use crate::error::RangeTextError;
-use crate::writing::{push_written, written_or};
+use crate::given::{push_given_names, push_given_units};
+use crate::writing::push_written;
 use fixed_decimal::Decimal;
 use icu_decimal::{Cow, DecimalFormatter};
 use icu_dimension::{LongCurrencyFormatter, UnitsFormatter};
 use icu_unit_ranges::{GivenNumber, PluralRangeStyle};
-use number_forms::{Form, Formatter};
+use number_formatters::Formatter;
+use number_forms::Form;
 use std::alloc::Global;
-
-/// Whether ranges are written by what a form writes with, where ranges have categories.
-fn supported_by_category(formatter: &Formatter) -> Result<(), RangeTextError>
-    ensures { result ≡ supported_by_category formatter.now }
-{
-    match formatter {
-        Formatter::Numbers(_)
-        | Formatter::ShortNumbers(_, _)
-        | Formatter::Money(_)
-        | Formatter::MoneyNamed(_)
-        | Formatter::MoneyShort(_)
-        | Formatter::ShortMoney(_, _)
-        | Formatter::Percent(_)
-        | Formatter::Units(_) => Ok(()),
-        Formatter::ShortNamed(_, _) | Formatter::ShortUnits(_, _) => {
-            Err(RangeTextError::Unsupported)
-        }
-    }
-}
 
 /// Appends two numbers with a unit as a range.
 fn push_units(
@@ -65,7 +49,7 @@ fn push_units(
         operands: last.plural_operands(),
         number: &last,
     };
-    written_or(style.write_units_into(alloc, formatter, &lower, &upper, out))
+    push_given_units(alloc, formatter, style, &lower, &upper, out)
 }
 
 /// Appends two amounts with the name of their currency as a range.
@@ -100,7 +84,7 @@ fn push_names(
         operands: last.plural_operands(),
         number: &last,
     };
-    written_or(style.write_names_into(alloc, formatter, &lower, &upper, out))
+    push_given_names(alloc, formatter, style, &lower, &upper, out)
 }
 
 /// Appends two decimals as a range.
@@ -134,21 +118,32 @@ fn push_written_by_category(
     match form.formatter() {
         Formatter::Units(units) => push_units(alloc, units, style, start, end, out),
         Formatter::MoneyNamed(money) => push_names(alloc, money, style, start, end, out),
+        Formatter::ShortUnits(units, by) => {
+            push_compact_units(alloc, by, units, style, start, end, out)
+        }
+        Formatter::ShortNamed(money, by) => {
+            push_compact_names(alloc, by, money, style, start, end, out)
+        }
         _ => push_written(alloc, form, &style.style, start, end, out),
     }
 }
 
-/// Appends what a form writes for the range of two texts, with the categories of ranges (this
-/// project's own).
+/// Appends what a form writes for the range of two texts (this project's own).
 ///
-/// It does what [`push_range`](crate::push_range) does, and writes ranges of numbers with a unit or
-/// with the name of a currency besides: in the pattern of the range's category, as `0–1 kilometers`
-/// and `1.00–2.00 US dollars`. `Unsupported` only for a form of compact numbers with a unit or a
-/// name. After an error the buffer is unchanged, unless memory ran out.
-// promise: Numbers with a unit have the pattern of their category.
-// mutations: range_of_units_whole, range_of_names_by_the_end_twice
-#[tactic(auto, unfolding(crate::specs::ByCategory::range_events_by_category))]
-pub fn push_plural_range(
+/// Each text is a decimal and nothing else, which is read, scaled and rounded as by `Form::push`.
+/// Amounts and percents without a sign have once what stands around both numbers, if it is more
+/// than one character. Numbers with a unit or with the name of a currency stand in the pattern of
+/// the range's category, as `0–1 kilometers` and `1.00–2.00 US dollars`. All others are written
+/// whole.
+///
+/// `Start` and `End` where a text isn't written by the form; `Descending` where the first number is
+/// above the second. After an error the buffer is unchanged, unless memory ran out.
+// promise: The buffer grows by just the range of the two texts.
+// mutations: range_of_the_end_twice, range_of_units_whole
+// promise: An error says which end has it, or that they descend.
+// mutations: range_error_of_the_end_as_the_start, range_descending_written
+#[tactic(auto, unfolding(crate::specs::ByCategory::range_events))]
+pub fn push_range(
     alloc: Global,
     form: &Form,
     style: &PluralRangeStyle<'_>,
@@ -156,14 +151,14 @@ pub fn push_plural_range(
     end: &[u8],
     out: &mut Vec<u8>,
 ) -> Result<(), RangeTextError>
-    ensures ok { OnOk result (AppendsRange (range_events_by_category form.now (record {
+    ensures ok { OnOk result (AppendsRange (range_events form.now (record {
       style = record {
         separator = style.now.style.pattern.now;
         fallback = style.now.style.fallback;
       };
       plural_ranges = style.now.plural_ranges.now;
     }) start.now end.now) out.old.items out.new.items) }
-    ensures refused { IfErr result (λ error. IsRefusal (range_events_by_category form.now (record {
+    ensures refused { IfErr result (λ error. IsRefusal (range_events form.now (record {
       style = record {
         separator = style.now.style.pattern.now;
         fallback = style.now.style.fallback;
@@ -173,7 +168,6 @@ pub fn push_plural_range(
     ensures unchanged { IfErr result (λ error. error ≢ RangeTextError.OutOfMemory →
         out.new.items ≡ out.old.items) }
 {
-    supported_by_category(form.formatter())?;
     let first = start_of(alloc, form, start)?;
     let last = end_of(alloc, form, end)?;
     ascending(first.read, last.read)?;

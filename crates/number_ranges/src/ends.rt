@@ -2,7 +2,7 @@
 
 ghost use Rattle.std.specs.Prelude.{◌≡◌, IfErr, IfOk, Ok};
 ghost use Rattle.number_forms.specs.Decimals.{scaled_decimal, shown_decimal};
-ghost use Rattle.number_ranges.specs.Ranges.{ascending, supported};
+ghost use Rattle.number_ranges.specs.Ranges.{ascending};
 ghost use Rattle.number_ranges.specs.Reported.{end_error, reported, start_error};
 ghost use Rattle.number_ranges.specs.WroteRange.{IsRefusal};
 
@@ -10,26 +10,8 @@ use crate::error::RangeTextError;
 use crate::reported::{end_error, start_error};
 use fixed_decimal::Decimal;
 use icu_ranges::DecimalRange;
-use number_forms::{Form, Formatter, Prepared};
+use number_forms::{Form, Prepared};
 use std::alloc::Global;
-
-/// Whether ranges are written by what a form writes with.
-pub(crate) fn supported(formatter: &Formatter) -> Result<(), RangeTextError>
-    ensures { result ≡ supported formatter.now }
-{
-    match formatter {
-        Formatter::Numbers(_)
-        | Formatter::ShortNumbers(_, _)
-        | Formatter::Money(_)
-        | Formatter::MoneyShort(_)
-        | Formatter::ShortMoney(_, _)
-        | Formatter::Percent(_) => Ok(()),
-        Formatter::MoneyNamed(_)
-        | Formatter::ShortNamed(_, _)
-        | Formatter::Units(_)
-        | Formatter::ShortUnits(_, _) => Err(RangeTextError::Unsupported),
-    }
-}
 
 /// The start of a range: its number as it is read, and as it is written.
 pub(crate) fn start_of(alloc: Global, form: &Form, text: &[u8]) -> Result<Prepared, RangeTextError>

@@ -6,10 +6,6 @@ use thiserror::Error;
 /// Why two texts have no formatted range.
 #[derive(Clone, Copy, Debug, PartialEq, Eq, Error)]
 pub enum RangeTextError {
-    /// The form writes numbers with a unit or with the name of a currency. By `push_range` these
-    /// have no ranges, and by `push_plural_range` compact ones have none.
-    #[error("no ranges of these numbers with a unit or a name")]
-    Unsupported,
     /// The first text has no formatted number.
     #[error("the start: {0}")]
     Start(TextError),

@@ -3,12 +3,13 @@
 #![tactic(auto)]
 
 mod by_category;
+mod compact;
 mod ends;
 mod error;
+mod given;
 mod marking;
 mod reported;
 mod writing;
 
-pub use by_category::push_plural_range;
+pub use by_category::push_range;
 pub use error::RangeTextError;
-pub use writing::push_range;

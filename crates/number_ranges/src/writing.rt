@@ -1,12 +1,11 @@
-//! What a form writes for the range of two texts.
+//! Two decimals as a range, where ranges have no plural categories.
 
 ghost use Rattle.std.specs.Prelude.{◌≡◌, ◌≢◌, IfErr, IfOk, OnErr, OnOk};
 ghost use Rattle.writeable.specs.Events.{text_of};
-ghost use Rattle.number_forms.specs.declared.form.Formatter.TheVariants.{Money, Percent};
-ghost use Rattle.number_ranges.specs.Ranges.{range_events, whole_range, written_range};
+ghost use Rattle.number_formatters.specs.declared.formatter.Formatter.TheVariants.{Money, Percent};
+ghost use Rattle.number_ranges.specs.Ranges.{whole_range, written_range};
 ghost use Rattle.number_ranges.specs.WroteRange.{AppendsRange, IsRefusal, written_or};
 
-use crate::ends::{ascending, end_of, start_of, supported};
 use crate::error::RangeTextError;
 use crate::marking::{mark_end, mark_start};
 use fixed_decimal::Decimal;
@@ -14,7 +13,8 @@ use icu_decimal::error::FormatError;
 use icu_decimal::{Cow, DecimalFormatter};
 use icu_dimension::{CurrencyFormatter, PercentFormatter};
 use icu_ranges::RangeStyle;
-use number_forms::{Form, Formatter, Prepared};
+use number_formatters::Formatter;
+use number_forms::Form;
 use std::alloc::Global;
 
 /// Why a range wasn't written, if it wasn't: a writer that fails counts as out of memory.
@@ -125,41 +125,4 @@ pub(crate) fn push_written(
         Formatter::Percent(percents) => push_percents(alloc, percents, style, start, end, out),
         _ => push_whole(alloc, form, style, start, end, out),
     }
-}
-
-/// Appends what a form writes for the range of two texts (this project's own).
-///
-/// Each text is a decimal and nothing else, which is read, scaled and rounded as by `Form::push`.
-/// Amounts and percents without a sign have once what stands around both numbers, if it is more
-/// than one character. All others are written whole. `Unsupported` for a form of numbers with a
-/// unit or with the name of a currency; `Start` and `End` where a text isn't written by the form;
-/// `Descending` where the first number is above the second. After an error the buffer is unchanged,
-/// unless memory ran out.
-// promise: The buffer grows by just the range of the two texts.
-// mutations: range_of_the_end_twice, range_descending_written
-#[tactic(auto, unfolding(crate::specs::Ranges::range_events))]
-pub fn push_range(
-    alloc: Global,
-    form: &Form,
-    style: &RangeStyle<'_>,
-    start: &[u8],
-    end: &[u8],
-    out: &mut Vec<u8>,
-) -> Result<(), RangeTextError>
-    ensures ok { OnOk result (AppendsRange (range_events form.now (record {
-      separator = style.now.pattern.now;
-      fallback = style.now.fallback;
-    }) start.now end.now) out.old.items out.new.items) }
-    ensures refused { IfErr result (λ error. IsRefusal (range_events form.now (record {
-      separator = style.now.pattern.now;
-      fallback = style.now.fallback;
-    }) start.now end.now) error) }
-    ensures unchanged { IfErr result (λ error. error ≢ RangeTextError.OutOfMemory →
-        out.new.items ≡ out.old.items) }
-{
-    supported(form.formatter())?;
-    let first = start_of(alloc, form, start)?;
-    let last = end_of(alloc, form, end)?;
-    ascending(first.read, last.read)?;
-    push_written(alloc, form, style, &first.written, &last.written, out)
 }

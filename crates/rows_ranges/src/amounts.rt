@@ -1,6 +1,6 @@
 //! Ranges of money and of percents: numbers of a locale in a pattern of CLDR, with `-`, `+` and `%`.
 
-use crate::ends::range;
+use crate::ends::{pattern_of, range};
 use crate::faults::Fault;
 use crate::locales::{fallback_of, plain, tables};
 use crate::written::{RangeWriter, asked};
@@ -51,7 +51,7 @@ fn money(
     (pattern, start, end): (&str, &str, &str),
 ) -> Result<String, Fault> {
     let patterns = patterns(alloc, amounts)?;
-    let pattern = RangePattern::parse(alloc, pattern)?;
+    let pattern = pattern_of(alloc, pattern)?;
     let numbers = plain(alloc, tables, amounts.0)?;
     let formatter = CurrencyRangeFormatter::new(numbers, patterns, pattern, fallback_of(amounts.0));
     asked_of(alloc, &formatter, call, (start, end))
@@ -66,7 +66,7 @@ fn percents(
     (pattern, start, end): (&str, &str, &str),
 ) -> Result<String, Fault> {
     let patterns = patterns(alloc, amounts)?;
-    let pattern = RangePattern::parse(alloc, pattern)?;
+    let pattern = pattern_of(alloc, pattern)?;
     let numbers = plain(alloc, tables, amounts.0)?;
     let formatter = PercentRangeFormatter::new(numbers, patterns, pattern, fallback_of(amounts.0));
     asked_of(alloc, &formatter, call, (start, end))

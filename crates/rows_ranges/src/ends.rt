@@ -15,6 +15,27 @@ pub(crate) fn separator(alloc: Global, text: &str) -> Result<String, Fault> {
     Ok(format!(in alloc; "[{}]", pattern.separator())?)
 }
 
+/// The range pattern of a text, as `{0}–{1}`, or with an approximately sign, as `{0}–{1}; ≈`.
+pub(crate) fn pattern_of(alloc: Global, text: &str) -> Result<RangePattern, Fault> {
+    match text.split_once("; ") {
+        Some((pattern, sign)) => {
+            let pattern = RangePattern::parse(alloc, pattern)?;
+            Ok(pattern.with_approximately_sign(String::from_str(alloc, sign)?))
+        }
+        None => Ok(RangePattern::parse(alloc, text)?),
+    }
+}
+
+/// The separator of a text and its approximately sign, in brackets.
+pub(crate) fn approximately_sign(alloc: Global, text: &str) -> Result<String, Fault> {
+    let pattern = pattern_of(alloc, text)?;
+    Ok(format!(in alloc;
+        "[{}] [{}]",
+        pattern.separator(),
+        pattern.approximately_sign()
+    )?)
+}
+
 /// The digits of a decimal, with its sign.
 fn digits_of(alloc: Global, decimal: &Decimal) -> Result<String, Fault> {
     let Ok(symbols) = DecimalSymbols::new_en_for_testing(alloc) else {

@@ -1,7 +1,8 @@
 //! Ranges by the numbers of a locale: `LOCALE`, or `LOCALE/short` and `LOCALE/long` for compact
-//! numbers. Behind them may stand `/twice`: two equal texts are both written.
+//! numbers. Behind them may stand what is written of two equal texts: `/once` for one of them,
+//! `/twice` for both, and `/approximately` for one of them with the approximately sign.
 
-use crate::ends::range;
+use crate::ends::{pattern_of, range};
 use crate::faults::Fault;
 use crate::written::asked;
 use icu_decimal::options::{CompactDecimalFormatterOptions, DecimalFormatterOptions};
@@ -22,6 +23,10 @@ type Range<'a> = (&'a str, &'a str, &'a str);
 pub(crate) fn fallback_of(word: &str) -> RangeIdentityFallback {
     if word.ends_with("/twice") {
         RangeIdentityFallback::Range
+    } else if word.ends_with("/once") {
+        RangeIdentityFallback::SingleValue
+    } else if word.ends_with("/approximately") {
+        RangeIdentityFallback::Approximately
     } else {
         RangeIdentityFallback::default()
     }
@@ -35,7 +40,7 @@ fn over<F: AbstractFormatter + Drop>(
     call: &str,
     (pattern, start, end): Range<'_>,
 ) -> Result<String, Fault> {
-    let pattern = RangePattern::parse(alloc, pattern)?;
+    let pattern = pattern_of(alloc, pattern)?;
     let formatter = NumberRangeFormatter::new(formatter, pattern, fallback);
     asked(alloc, &formatter, call, &range(alloc, start, end)?)
 }

@@ -35,6 +35,9 @@ fn returned(
         }
         (_, _) if call == "try_new_unstable" => tables::returned(alloc, documents, kind, arguments),
         ("RangePattern", [text]) if call == "parse" => ends::separator(alloc, text),
+        ("RangePattern", [text]) if call == "with_approximately_sign" => {
+            ends::approximately_sign(alloc, text)
+        }
         ("DecimalRange", [start, end]) if call == "try_new" => ends::range_made(alloc, start, end),
         ("NumberRangeFormatter", [locale, pattern, start, end]) => {
             let range = (pattern.as_str(), start.as_str(), end.as_str());
@@ -46,6 +49,9 @@ fn returned(
         ("", [locale, text, symbol, pattern]) if call == "are_amount_ranges_readable" => {
             let amounts = (locale.as_str(), text.as_str(), symbol.as_str());
             amounts::readable(alloc, documents, amounts, pattern)
+        }
+        ("RangePattern", [_, _, _]) if call == "approximately_sign" => {
+            tables::returned(alloc, documents, call, arguments)
         }
         ("PluralRanges", _) => plural::returned(alloc, documents, call, arguments),
         ("PercentRangeFormatter" | "CurrencyRangeFormatter", _) => {

@@ -2,6 +2,7 @@
 //! locale, patterns as `other {0} days; one {0} day`, and entries of categories. A name stands in
 //! brackets, as in `{0} [US dollars]`.
 
+use crate::ends;
 use crate::ends::range;
 use crate::faults::Fault;
 use crate::locales::{fallback_of, name_of, plain, tables};
@@ -11,7 +12,6 @@ use icu_decimal::DecimalFormatter;
 use icu_dimension::{LongCurrencyFormatter, NamePattern, NameTexts, UnitsFormatter};
 use icu_pattern::{Pattern, SinglePlaceholder};
 use icu_plurals::{PluralCategory, PluralElements};
-use icu_ranges::RangePattern;
 use icu_tables::Tables;
 use icu_unit_ranges::{LongCurrencyRangeFormatter, UnitsRangeFormatter};
 use rows::Documents;
@@ -161,7 +161,7 @@ fn units(
     call: &str,
     measure: Measure<'_>,
 ) -> Result<String, Fault> {
-    let pattern = RangePattern::parse(alloc, measure.pattern)?;
+    let pattern = ends::pattern_of(alloc, measure.pattern)?;
     let entries = ranges(alloc, measure.entries)?;
     let single = single_units(alloc, tables, measure)?;
     let fallback = fallback_of(measure.locale);
@@ -176,7 +176,7 @@ fn names(
     call: &str,
     measure: Measure<'_>,
 ) -> Result<String, Fault> {
-    let pattern = RangePattern::parse(alloc, measure.pattern)?;
+    let pattern = ends::pattern_of(alloc, measure.pattern)?;
     let entries = ranges(alloc, measure.entries)?;
     let single = single_names(alloc, tables, measure)?;
     let fallback = fallback_of(measure.locale);

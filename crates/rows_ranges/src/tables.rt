@@ -52,13 +52,13 @@ fn data_error(alloc: Global, error: DataError) -> Result<String, Fault> {
     Ok(String::from_str(alloc, kind)?)
 }
 
-/// The separator of a locale in brackets, or why there is none.
-fn separator(
+/// The range pattern of a locale, or why there is none.
+fn pattern(
     alloc: Global,
     tables: &RangeTables,
     locale: &str,
     system: &str,
-) -> Result<String, Fault> {
+) -> Result<Result<RangePattern, DataError>, Fault> {
     let Ok(locale) = DataLocale::try_from_str(locale) else {
         return Err(Fault::Unreadable);
     };
@@ -66,8 +66,31 @@ fn separator(
         locale_preferences: locale,
         numbering_system: NumberingSystem::try_from_str(system).ok(),
     };
-    match RangePattern::try_new_unstable(alloc, tables, preferences) {
+    Ok(RangePattern::try_new_unstable(alloc, tables, preferences))
+}
+
+/// The separator of a locale in brackets, or why there is none.
+fn separator(
+    alloc: Global,
+    tables: &RangeTables,
+    locale: &str,
+    system: &str,
+) -> Result<String, Fault> {
+    match pattern(alloc, tables, locale, system)? {
         Ok(pattern) => Ok(format!(in alloc; "[{}]", pattern.separator())?),
+        Err(error) => data_error(alloc, error),
+    }
+}
+
+/// The approximately sign of a locale in brackets, or why there is none.
+fn approximately_sign(
+    alloc: Global,
+    tables: &RangeTables,
+    locale: &str,
+    system: &str,
+) -> Result<String, Fault> {
+    match pattern(alloc, tables, locale, system)? {
+        Ok(pattern) => Ok(format!(in alloc; "[{}]", pattern.approximately_sign())?),
         Err(error) => data_error(alloc, error),
     }
 }
@@ -103,6 +126,9 @@ fn loaded(alloc: Global, text: &str, kind: &str, arguments: &[String]) -> Result
     };
     match (kind, arguments) {
         ("RangePattern", [locale, system]) => separator(alloc, &tables, locale, system),
+        ("approximately_sign", [locale, system]) => {
+            approximately_sign(alloc, &tables, locale, system)
+        }
         ("PluralRanges", [locale, start, end]) => category(alloc, &tables, locale, (start, end)),
         _ => Err(Fault::Unreadable),
     }

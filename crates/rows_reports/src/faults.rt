@@ -4,7 +4,8 @@ use crate::CallResult;
 use decimal_lines::{TablesFault, TextError};
 use icu_tables::TableError;
 use locnum_options::{NumberOption, OptionFault};
-use number_forms::{StartError, Unsupported};
+use number_formatters::Unsupported;
+use number_forms::StartError;
 use number_skeleton::read_skeleton;
 use std::alloc::{AllocError, Global};
 

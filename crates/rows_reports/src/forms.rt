@@ -11,7 +11,8 @@ use crate::{CallResult, lines, parts, records};
 use decimal_lines::{Mode, TextError};
 use fixed_decimal::{Decimal, Sign};
 use locnum_lines::LineSettings;
-use number_forms::{Form, Formatter, Settings};
+use number_formatters::{Formatter, Settings};
+use number_forms::Form;
 use rows::Documents;
 use std::alloc::{AllocError, Global};
 

@@ -8,7 +8,7 @@ use fixed_decimal::{SignedRoundingMode, UnsignedRoundingMode};
 use icu_decimal::options::GroupingStrategy;
 use locnum_lines::{Delimiter, FieldRange, LineSettings, Padding, Source};
 use locnum_options::{Given, OptionFault, Options, parse_options};
-use number_forms::{FormGrouping, Kind, Settings};
+use number_formatters::{FormGrouping, Kind, Settings};
 use skeleton_settings::{Notation, Precision};
 use std::alloc::{AllocError, Global};
 

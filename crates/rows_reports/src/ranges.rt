@@ -9,14 +9,14 @@ use icu_ranges::{
 };
 use icu_unit_ranges::PluralRangeStyle;
 use number_forms::Form;
-use number_ranges::{RangeTextError, push_plural_range, push_range};
+use number_ranges::{RangeTextError, push_range};
 use std::alloc::{AllocError, Global};
 
-/// Two texts, what stands between them, and an entry of categories of ranges, if they have some.
+/// Two texts, what stands between them, and an entry of categories of ranges, or nothing.
 #[derive(Clone, Copy)]
 pub(crate) struct AskedRange<'a> {
     pattern: &'a str,
-    entries: Option<&'a str>,
+    entries: &'a str,
     start: &'a str,
     end: &'a str,
 }
@@ -27,7 +27,7 @@ impl<'a> AskedRange<'a> {
         match words {
             [pattern, start, end] => Some(AskedRange {
                 pattern: pattern.as_str(),
-                entries: None,
+                entries: "",
                 start: start.as_str(),
                 end: end.as_str(),
             }),
@@ -41,7 +41,7 @@ impl<'a> AskedRange<'a> {
         match words {
             [pattern, entries, start, end] => Some(AskedRange {
                 pattern: pattern.as_str(),
-                entries: Some(entries.as_str()),
+                entries: entries.as_str(),
                 start: start.as_str(),
                 end: end.as_str(),
             }),
@@ -57,23 +57,6 @@ fn not_ranged(alloc: Global, error: RangeTextError) -> CallResult {
         RangeTextError::Start(error) => Ok(Some(format!(in alloc; "Start {error:?}")?)),
         RangeTextError::End(error) => Ok(Some(format!(in alloc; "End {error:?}")?)),
         _ => Ok(Some(format!(in alloc; "{error:?}")?)),
-    }
-}
-
-/// What `push_range` answers; in front of an error stands what was written anyway.
-fn pushed(
-    alloc: Global,
-    form: &Form,
-    style: &RangeStyle<'_>,
-    start: &[u8],
-    end: &[u8],
-) -> CallResult {
-    let mut out = Vec::new(alloc);
-    match push_range(alloc, form, style, start, end, &mut out) {
-        Ok(()) => Ok(Some(text_of(alloc, &out)?)),
-        Err(error) if out.is_empty() => not_ranged(alloc, error),
-        Err(RangeTextError::OutOfMemory) => Err(AllocError),
-        Err(_) => Ok(Some(text_of(alloc, &out)?)),
     }
 }
 
@@ -116,8 +99,8 @@ fn categories_of(alloc: Global, text: &str) -> Result<Option<PluralRanges>, Allo
     }
 }
 
-/// What `push_plural_range` answers; in front of an error stands what was written anyway.
-fn pushed_by_category(
+/// What `push_range` answers; in front of an error stands what was written anyway.
+fn pushed(
     alloc: Global,
     form: &Form,
     style: &PluralRangeStyle<'_>,
@@ -125,7 +108,7 @@ fn pushed_by_category(
     end: &[u8],
 ) -> CallResult {
     let mut out = Vec::new(alloc);
-    match push_plural_range(alloc, form, style, start, end, &mut out) {
+    match push_range(alloc, form, style, start, end, &mut out) {
         Ok(()) => Ok(Some(text_of(alloc, &out)?)),
         Err(error) if out.is_empty() => not_ranged(alloc, error),
         Err(RangeTextError::OutOfMemory) => Err(AllocError),
@@ -133,53 +116,68 @@ fn pushed_by_category(
     }
 }
 
-/// What a form writes for a range in a style, by categories if there are some.
+/// What a form writes for a range in a style, by categories.
 fn in_style(
     alloc: Global,
     form: &Form,
     style: RangeStyle<'_>,
-    categories: Option<&PluralRanges>,
+    plural_ranges: &PluralRanges,
     asked: AskedRange<'_>,
 ) -> CallResult {
     let (start, end) = (bytes_of(alloc, asked.start)?, bytes_of(alloc, asked.end)?);
-    match categories {
-        Some(plural_ranges) => {
-            let style = PluralRangeStyle {
-                style,
-                plural_ranges,
-            };
-            pushed_by_category(alloc, form, &style, &start, &end)
-        }
-        None => pushed(alloc, form, &style, &start, &end),
-    }
+    let style = PluralRangeStyle {
+        style,
+        plural_ranges,
+    };
+    pushed(alloc, form, &style, &start, &end)
 }
 
-/// What a form writes for a range in a style, by the categories of a word if there is one.
+/// What a form writes for a range in a style, by the categories that are asked for.
 fn by_categories(
     alloc: Global,
     form: &Form,
     style: RangeStyle<'_>,
     asked: AskedRange<'_>,
 ) -> CallResult {
-    let Some(entries) = asked.entries else {
-        return in_style(alloc, form, style, None, asked);
-    };
-    match categories_of(alloc, entries)? {
-        Some(categories) => in_style(alloc, form, style, Some(&categories), asked),
+    match categories_of(alloc, asked.entries)? {
+        Some(categories) => in_style(alloc, form, style, &categories, asked),
         None => Ok(None),
     }
 }
 
-/// What a form writes for a range.
-pub(crate) fn ranged(alloc: Global, form: &Form, asked: AskedRange<'_>) -> CallResult {
-    let pattern = match RangePattern::parse(alloc, asked.pattern) {
+/// The range pattern of a text, with an approximately sign if there is one.
+fn pattern_of(
+    alloc: Global,
+    text: &str,
+    sign: Option<&str>,
+) -> Result<Option<RangePattern>, AllocError> {
+    let pattern = match RangePattern::parse(alloc, text) {
         Ok(pattern) => pattern,
         Err(RangePatternError::OutOfMemory) => return Err(AllocError),
         Err(RangePatternError::BadRangePattern) => return Ok(None),
     };
+    match sign {
+        Some(sign) => {
+            let sign = String::from_str(alloc, sign)?;
+            Ok(Some(pattern.with_approximately_sign(sign)))
+        }
+        None => Ok(Some(pattern)),
+    }
+}
+
+/// What a form writes for a range. Behind the pattern may stand an approximately sign, as in
+/// `{0}–{1}; ~`: one of two equal texts is then written with it.
+pub(crate) fn ranged(alloc: Global, form: &Form, asked: AskedRange<'_>) -> CallResult {
+    let (text, sign, fallback) = match asked.pattern.split_once("; ") {
+        Some((text, sign)) => (text, Some(sign), RangeIdentityFallback::Approximately),
+        None => (asked.pattern, None, RangeIdentityFallback::SingleValue),
+    };
+    let Some(pattern) = pattern_of(alloc, text, sign)? else {
+        return Ok(None);
+    };
     let style = RangeStyle {
         pattern: &pattern,
-        fallback: RangeIdentityFallback::SingleValue,
+        fallback,
     };
     by_categories(alloc, form, style, asked)
 }

@@ -35,7 +35,7 @@ use Rattle.talmuiga_c.specs.contracts.held.Held.{the_row, the_type}
 mode-Mute : Mute (by-words.the_field.row.exit no)
 mode-Mute = Mute-variants no (variants by-words.the_type) ((Mute-flat (λ x w. refl) (λ x. tt), tt), ((Mute-flat (λ x w. refl) (λ x. tt), tt), tt))
 
--- nor has what a formatter holds: a mode, a form, or a form and a range pattern
+-- nor has what a formatter holds: a mode, a form, or a form with the ranges of a locale
 kept-Mute : Mute (by-kept.the_field.row.exit no)
 kept-Mute = Mute-variants no (variants by-kept.the_type) (
   (mode-Mute, tt),

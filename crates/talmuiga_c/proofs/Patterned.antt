@@ -1,4 +1,4 @@
--- Calls that end where the range pattern of tables is found, or isn't, and where a range is written, or isn't.
+-- Calls that end where the ranges of a locale are found in tables, or aren't, and where a range is written, or isn't.
 use Rattle.std.proofs.Common.{◌≡◌, ℕ, List, Ok, Err, refl, ap, inl, inr}
 use Rattle.std.specs.Prelude.{Option, Result}
 use Rattle.std.specs.Str.{IsUtf8}
@@ -7,27 +7,30 @@ use Rattle.icu_provider.specs.Answer.{Refusal, Refuses}
 use Rattle.icu_provider.specs.declared.error.DataErrorKind.{DataErrorKind}
 use Rattle.icu_provider.specs.declared.error.DataErrorKind.TheVariants as refusal
 use Rattle.icu_ranges.specs.Separator.{Separator}
+use Rattle.icu_ranges.specs.declared.plural_ranges.PluralRange.{PluralRange}
 use Rattle.icu_range_tables.specs.RangeTables.{RangeData}
 use Rattle.icu_table_entries.specs.Reading.{Fails}
 use Rattle.icu_table_entries.specs.declared.error.TableError.{TableError}
 use Rattle.icu_table_entries.specs.declared.error.TableError.TheVariants as table
+use Rattle.number_formatters.specs.Settings.{FormSettings}
 use Rattle.number_forms.specs.Forms.{FormData}
 use Rattle.number_forms.specs.Making.{StopsForm, read_then, start_error, started, table_error, form_of}
-use Rattle.number_forms.specs.Settings.{FormSettings}
 use Rattle.number_forms.specs.declared.error.StartError.{StartError}
 use Rattle.number_forms.specs.declared.error.StartError.TheVariants as start
 use Rattle.number_ranges.specs.WroteRange.{IsRefusal}
 use Rattle.number_ranges.specs.declared.error.RangeTextError.{RangeTextError}
 use Rattle.talmuiga_c.specs.Endings.{out_of_memory}
 use Rattle.talmuiga_c.specs.Handle.{empty}
+use Rattle.talmuiga_c.specs.LocaleRanges.{with_categories}
 use Rattle.talmuiga_c.specs.Patterns.{pattern_status}
 use Rattle.talmuiga_c.specs.Ranges.{OpensBoth, RangeOf, range_status}
 use Rattle.talmuiga_c.specs.Skeletons.{form_asked, form_status}
 use Rattle.talmuiga_c.specs.declared.held.Held.{Held}
+use Rattle.talmuiga_c.specs.declared.locale_ranges.LocaleRanges.{LocaleRanges}
 use Rattle.talmuiga_c.proofs.Unformed.{asked-is}
 
--- why there is no pattern if a text is rejected
-pub read-stops : (e : TableError) (read : Result RangeData TableError) (next : RangeData → Result Separator StartError) → Fails e read
+-- why there are no ranges if a text is rejected
+pub read-stops : (e : TableError) (read : Result RangeData TableError) (next : RangeData → Result LocaleRanges StartError) → Fails e read
     → StopsForm (table_error e) (read_then read next)
 read-stops table.NotJson read next is = ap (λ r. read_then r next) is
 read-stops table.Float read next is = ap (λ r. read_then r next) is
@@ -45,29 +48,37 @@ answer-stops refusal.InvalidRequest context answer is = ap started is
 answer-stops refusal.Custom context answer is = ap started is
 answer-stops refusal.OutOfMemory context answer is = tt
 
+-- without a pattern there are no ranges
+pub unpatterned-stops : (error : StartError) (categories : List PluralRange) (pattern : Result Separator StartError) → StopsForm error pattern
+    → StopsForm error (with_categories categories pattern)
+unpatterned-stops start.NotUtf8 categories pattern is = ap (with_categories categories) is
+unpatterned-stops (start.Refused e) categories pattern is = ap (with_categories categories) is
+unpatterned-stops start.NoData categories pattern is = ap (with_categories categories) is
+unpatterned-stops start.OutOfMemory categories pattern is = tt
+
 module _ (held : Option (Option Held)) (is_empty : held ≡ empty) where
-  unopened : (form : Result FormData StartError) (pattern : Result Separator StartError) → OpensBoth form pattern held out_of_memory
-  unopened (Ok form) (Ok pattern) = inr (is_empty, refl)
+  unopened : (form : Result FormData StartError) (ranges : Result LocaleRanges StartError) → OpensBoth form ranges held out_of_memory
+  unopened (Ok form) (Ok ranges) = inr (is_empty, refl)
   unopened (Ok form) (Err error) = (is_empty, inr refl)
-  unopened (Err error) pattern = (is_empty, inr refl)
+  unopened (Err error) ranges = (is_empty, inr refl)
 
-  -- without a pattern a formatter stays closed
-  pub unpatterned-opens : (form : FormData) (pattern : Result Separator StartError) (error : StartError) → StopsForm error pattern
-      → OpensBoth (Ok form) pattern held (pattern_status error)
-  unpatterned-opens form pattern start.NotUtf8 is = rw is (is_empty, inl refl)
-  unpatterned-opens form pattern (start.Refused e) is = rw is (is_empty, inl refl)
-  unpatterned-opens form pattern start.NoData is = rw is (is_empty, inl refl)
-  unpatterned-opens form pattern start.OutOfMemory is = unopened (Ok form) pattern
+  -- without ranges a formatter stays closed
+  pub unranged-opens : (form : FormData) (ranges : Result LocaleRanges StartError) (error : StartError) → StopsForm error ranges
+      → OpensBoth (Ok form) ranges held (pattern_status error)
+  unranged-opens form ranges start.NotUtf8 is = rw is (is_empty, inl refl)
+  unranged-opens form ranges (start.Refused e) is = rw is (is_empty, inl refl)
+  unranged-opens form ranges start.NoData is = rw is (is_empty, inl refl)
+  unranged-opens form ranges start.OutOfMemory is = unopened (Ok form) ranges
 
-  module _ (settings : FormSettings) (tables : List ℕ) (pattern : Result Separator StartError) where
+  module _ (settings : FormSettings) (tables : List ℕ) (ranges : Result LocaleRanges StartError) where
     -- nor is it opened without a form
     pub unformed-stays : (error : StartError) → (IsUtf8 tables → StopsForm error (form_of settings tables))
         → (¬ (IsUtf8 tables) → ◌≡◌ {A = Result FormData StartError} (Err error) (Err start.NotUtf8))
-        → OpensBoth (form_asked settings tables) pattern held (form_status error)
+        → OpensBoth (form_asked settings tables) ranges held (form_status error)
     unformed-stays start.NotUtf8 text no_text = rw (asked-is settings tables (Err start.NotUtf8) text no_text) (is_empty, inl refl)
     unformed-stays (start.Refused e) text no_text = rw (asked-is settings tables (Err (start.Refused e)) text no_text) (is_empty, inl refl)
     unformed-stays start.NoData text no_text = rw (asked-is settings tables (Err start.NoData) text no_text) (is_empty, inl refl)
-    unformed-stays start.OutOfMemory text no_text = unopened (form_asked settings tables) pattern
+    unformed-stays start.OutOfMemory text no_text = unopened (form_asked settings tables) ranges
 
 -- a range that isn't written
 pub unwritten-range : (written : Result (List Event) RangeTextError) (error : RangeTextError) (old new : List ℕ) → IsRefusal written error

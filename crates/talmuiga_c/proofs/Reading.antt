@@ -3,9 +3,9 @@ use Rattle.std.proofs.Common.{◌≡◌, ℕ, Bool, true, false, List, Some, Non
 use Rattle.std.specs.Prelude.{Result, if◌then◌else◌}
 use Rattle.std.specs.Str.{IsUtf8, IsValidUpTo, is_utf8}
 use Rattle.std.proofs.lemmas.Str.{IsUtf8-from_is_utf8, is_utf8-from_IsUtf8, utf8_valid_len-IsValidUpTo}
-use Rattle.number_forms.specs.Settings.{FormSettings}
-use Rattle.number_forms.specs.Skeleton.{settings_of}
-use Rattle.number_forms.specs.declared.skeleton.Unsupported.{Unsupported}
+use Rattle.number_formatters.specs.Settings.{FormSettings}
+use Rattle.number_formatters.specs.Skeleton.{settings_of}
+use Rattle.number_formatters.specs.declared.skeleton.Unsupported.{Unsupported}
 use Rattle.number_skeleton.specs.Tokens.{skeleton_of}
 use Rattle.skeleton_settings.specs.Settings.{skeleton_data}
 use Rattle.skeleton_settings.specs.declared.settings.Skeleton.{Skeleton}

@@ -1,17 +1,17 @@
--- A form depends on the names that a skeleton lends, and not on where these lie in memory; a range pattern doesn't depend on them.
+-- A form depends on the names that a skeleton lends, and not on where these lie in memory; the ranges of a locale don't depend on them.
 use Rattle.std.proofs.Common.{◌≡◌, ℕ, List, refl, sym, inl, inr}
 use Rattle.std.specs.Prelude.{◌⊎◌, Option, Some, None, option_map, Result, Ok, Err}
 use Rattle.std.specs.Borrow.{Bor}
-use Rattle.number_forms.specs.Loaded.{unit_by_notation, unit_loaded, unit_long_loaded, unit_short_loaded}
+use Rattle.number_formatters.specs.Loaded.{unit_by_notation, unit_loaded, unit_long_loaded, unit_short_loaded}
+use Rattle.number_formatters.specs.Settings.{FormSettings}
+use Rattle.number_formatters.specs.Skeleton.{◌>>=◌, default_precision, grouping_set, kind_set, money_set, patterns_set, percent_set, permille_set}
+use Rattle.number_formatters.specs.Skeleton.{precision_set, settings_of, share_set, system_set, unit_by, unit_set}
+use Rattle.number_formatters.specs.declared.settings.Kind.{Kind}
+use Rattle.number_formatters.specs.declared.settings.Kind.TheVariants.{Unit as WithUnit}
+use Rattle.number_formatters.specs.declared.settings.UnitName.TheVariants as unit
+use Rattle.number_formatters.specs.declared.settings.UnitWidth as patterns
+use Rattle.number_formatters.specs.declared.skeleton.Unsupported.{Unsupported}
 use Rattle.number_forms.specs.Making.{form_of}
-use Rattle.number_forms.specs.Settings.{FormSettings}
-use Rattle.number_forms.specs.Skeleton.{◌>>=◌, default_precision, grouping_set, kind_set, money_set, patterns_set, percent_set, permille_set}
-use Rattle.number_forms.specs.Skeleton.{precision_set, settings_of, share_set, system_set, unit_by, unit_set}
-use Rattle.number_forms.specs.declared.settings.Kind.{Kind}
-use Rattle.number_forms.specs.declared.settings.Kind.TheVariants.{Unit as WithUnit}
-use Rattle.number_forms.specs.declared.settings.UnitName.TheVariants as unit
-use Rattle.number_forms.specs.declared.settings.UnitWidth as patterns
-use Rattle.number_forms.specs.declared.skeleton.Unsupported.{Unsupported}
 use Rattle.skeleton_settings.specs.Settings.{name_data, skeleton_data, unit_data}
 use Rattle.skeleton_settings.specs.declared.settings.Notation.{Notation}
 use Rattle.skeleton_settings.specs.declared.settings.Notation.TheVariants.{Simple, CompactShort, CompactLong}
@@ -19,7 +19,7 @@ use Rattle.skeleton_settings.specs.declared.settings.NumberUnit.{NumberUnit}
 use Rattle.skeleton_settings.specs.declared.settings.NumberUnit.TheVariants as counted
 use Rattle.skeleton_settings.specs.declared.settings.Precision.{Precision}
 use Rattle.skeleton_settings.specs.declared.settings.Skeleton.{Skeleton}
-use Rattle.talmuiga_c.specs.Patterns.{pattern_asked}
+use Rattle.talmuiga_c.specs.LocaleRanges.{ranges_asked}
 use Rattle.talmuiga_c.specs.Skeletons.{form_asked, lent, lent_skeleton, lent_unit}
 
 -- the skeleton with its names lent from elsewhere
@@ -68,10 +68,10 @@ same-kind s counted.Permille = inl refl
 same-kind s (counted.Currency letters) = inl refl
 same-kind s (counted.Named name) = with_patterns s name (patterns_set s.width)
 
--- settings that have the same form and the same range pattern by all tables
+-- settings that have the same form and the same ranges by all tables
 abbrev pub SameBoth : FormSettings → FormSettings → Type 0
 SameBoth x y =
-    ((tables : List ℕ) → form_asked x tables ≡ form_asked y tables) × ((tables : List ℕ) → pattern_asked x tables ≡ pattern_asked y tables)
+    ((tables : List ℕ) → form_asked x tables ≡ form_asked y tables) × ((tables : List ℕ) → ranges_asked x tables ≡ ranges_asked y tables)
 
 -- the same, if there are settings
 abbrev pub SameForms : Result FormSettings Unsupported → Result FormSettings Unsupported → Type 0
@@ -123,15 +123,15 @@ same-unit x name w Simple tables = refl
 same-unit x name w CompactShort tables = refl
 same-unit x name w CompactLong tables = refl
 
--- the range pattern, which no unit changes
-same-pattern : (x : FormSettings) (k l : Kind) (tables : List ℕ) → pattern_asked (with_kind x k) tables ≡ pattern_asked (with_kind x l) tables
-unfolding pattern_asked
-same-pattern x k l tables = refl
+-- the ranges of the locale, which no unit changes
+same-ranges : (x : FormSettings) (k l : Kind) (tables : List ℕ) → ranges_asked (with_kind x k) tables ≡ ranges_asked (with_kind x l) tables
+unfolding ranges_asked
+same-ranges x k l tables = refl
 
 -- both
 same-both : (x : FormSettings) (name : Bor (List ℕ)) (w : patterns.UnitWidth) (n : Notation)
     → SameBoth (with_kind x (WithUnit (unit.Named name) w n)) (with_kind x (WithUnit (unit.Named (lent name.now)) w n))
-same-both x name w n = (same-unit x name w n, same-pattern x (WithUnit (unit.Named name) w n) (WithUnit (unit.Named (lent name.now)) w n))
+same-both x name w n = (same-unit x name w n, same-ranges x (WithUnit (unit.Named name) w n) (WithUnit (unit.Named (lent name.now)) w n))
 
 -- the settings of a skeleton, wherever its names lie
 pub same-settings : (locale : List ℕ) (s : Skeleton) → SameForms (settings_of locale s) (settings_of locale (moved s))

@@ -3,9 +3,9 @@ use Rattle.std.proofs.Common.{◌≡◌, ℕ, Bool, true, false, List, Ok, Err, 
 use Rattle.std.specs.Prelude.{Option, Result, if◌then◌else◌}
 use Rattle.std.specs.Str.{IsUtf8, is_utf8}
 use Rattle.std.proofs.lemmas.Str.{IsUtf8-from_is_utf8}
+use Rattle.number_formatters.specs.Settings.{FormSettings}
 use Rattle.number_forms.specs.Forms.{FormData}
 use Rattle.number_forms.specs.Making.{StopsForm, form_of}
-use Rattle.number_forms.specs.Settings.{FormSettings}
 use Rattle.number_forms.specs.declared.error.StartError.{StartError}
 use Rattle.number_forms.specs.declared.error.StartError.TheVariants as start
 use Rattle.talmuiga_c.specs.Endings.{out_of_memory}

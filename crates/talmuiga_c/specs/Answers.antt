@@ -29,10 +29,10 @@ form_result form text = answer_of (form_events form text)
 abbrev pub kept_events : Kept → List ℕ → Result (List Event) TextError
 kept_events (ByWords mode) text = events_of mode text
 kept_events (BySkeleton form) text = form_events form text
-kept_events (WithRanges form pattern) text = form_events form text
+kept_events (WithRanges form ranges) text = form_events form text
 
 -- the answer of a formatter to the text of a line
 abbrev pub kept_result : Kept → List ℕ → List ℕ
 kept_result (ByWords mode) = text_result mode
 kept_result (BySkeleton form) = form_result form
-kept_result (WithRanges form pattern) = form_result form
+kept_result (WithRanges form ranges) = form_result form

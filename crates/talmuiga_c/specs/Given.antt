@@ -15,7 +15,7 @@ use Rattle.talmuiga_c.specs.declared.kept.Kept.TheVariants.{ByWords, BySkeleton,
 abbrev pub kept_form : Kept → Option FormData
 kept_form (ByWords mode) = None
 kept_form (BySkeleton form) = Some form
-kept_form (WithRanges form pattern) = Some form
+kept_form (WithRanges form ranges) = Some form
 
 -- nothing is added
 abbrev pub AddsNothing : List GivenData → List GivenData → ℕ → ℕ → Type 0

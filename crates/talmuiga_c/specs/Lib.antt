@@ -7,6 +7,7 @@ pub mod Given
 pub mod Handle
 pub mod Kept
 pub mod Listing
+pub mod LocaleRanges
 pub mod Marked
 pub mod MessageFaults
 pub mod MessagePlaces

@@ -10,30 +10,30 @@ use Rattle.talmuiga_c.specs.declared.message_status.WordAt.{WordAt}
 
 -- a text isn't a message
 abbrev pub message_refused : ℕ
-message_refused = 16
+message_refused = 15
 
 -- an argument isn't given, or not in the form of its place
 abbrev pub missing_argument : ℕ
-missing_argument = 17
+missing_argument = 16
 
 -- an argument is of the other kind
 abbrev pub not_a_number : ℕ
-not_a_number = 18
+not_a_number = 17
 
 abbrev pub not_a_text : ℕ
-not_a_text = 19
+not_a_text = 18
 
 -- a name, a text or a skeleton isn't UTF-8
 abbrev pub not_utf8 : ℕ
-not_utf8 = 20
+not_utf8 = 19
 
 -- a formatter was opened without a skeleton
 abbrev pub no_form : ℕ
-no_form = 21
+no_form = 20
 
 -- there are fewer places or names
 abbrev pub no_such_place : ℕ
-no_such_place = 22
+no_such_place = 21
 
 -- that of a message that isn't opened
 abbrev pub open_status : OpenError → ℕ

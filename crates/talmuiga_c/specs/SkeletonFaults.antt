@@ -1,7 +1,7 @@
 -- What is wrong with a skeleton, in numbers.
 use Rattle.std.specs.Prelude.{ℕ}
-use Rattle.number_forms.specs.declared.skeleton.Unsupported.{Unsupported}
-use Rattle.number_forms.specs.declared.skeleton.Unsupported.TheVariants as unsupported
+use Rattle.number_formatters.specs.declared.skeleton.Unsupported.{Unsupported}
+use Rattle.number_formatters.specs.declared.skeleton.Unsupported.TheVariants as unsupported
 use Rattle.number_skeleton.specs.declared.fault.FaultKind.{FaultKind}
 use Rattle.number_skeleton.specs.declared.fault.FaultKind.TheVariants as kind
 use Rattle.number_skeleton.specs.declared.fault.Setting.{Setting}

@@ -5,13 +5,13 @@ use Rattle.std.specs.Str.{is_utf8}
 use Rattle.std.specs.Str.Lossy.{utf8_valid_len}
 use Rattle.decimal_lines.specs.SingleText.{HoldsIfRoom}
 use Rattle.decimal_lines.specs.Words.{◌>>=◌, locale_named}
+use Rattle.number_formatters.specs.Settings.{FormSettings}
+use Rattle.number_formatters.specs.Skeleton.{settings_of}
+use Rattle.number_formatters.specs.declared.skeleton.Unsupported.{Unsupported}
 use Rattle.number_forms.specs.Forms.{FormData}
 use Rattle.number_forms.specs.Making.{form_of}
-use Rattle.number_forms.specs.Settings.{FormSettings}
-use Rattle.number_forms.specs.Skeleton.{settings_of}
 use Rattle.number_forms.specs.declared.error.StartError.{StartError}
 use Rattle.number_forms.specs.declared.error.StartError.TheVariants as start
-use Rattle.number_forms.specs.declared.skeleton.Unsupported.{Unsupported}
 use Rattle.number_skeleton.specs.Tokens.{skeleton_of}
 use Rattle.number_skeleton.specs.declared.fault.SkeletonFault.{SkeletonFault}
 use Rattle.skeleton_settings.specs.Canonical.{canonical_of}
@@ -22,7 +22,7 @@ use Rattle.skeleton_settings.specs.declared.settings.Skeleton.{Skeleton}
 use Rattle.talmuiga_c.specs.Asked.{text_in}
 use Rattle.talmuiga_c.specs.Endings.{IsUntouched, done, no_data, out_of_memory, output_too_small, tables_refused, words_refused}
 use Rattle.talmuiga_c.specs.Handle.{empty, holding}
-use Rattle.talmuiga_c.specs.Patterns.{pattern_asked}
+use Rattle.talmuiga_c.specs.LocaleRanges.{ranges_asked}
 use Rattle.talmuiga_c.specs.SkeletonFaults.{fault_of, no_fault, not_utf8_at, unsupported_fault}
 use Rattle.talmuiga_c.specs.declared.fault.Fault.{Fault}
 use Rattle.talmuiga_c.specs.declared.held.Held.{Held}
@@ -101,11 +101,11 @@ settings_asked locale skeleton = settings_from (locale_asked locale) (skeleton_a
 unfoldable pub form_asked : FormSettings → List ℕ → Result FormData StartError
 form_asked settings tables = if is_utf8 tables then form_of settings tables else Err start.NotUtf8
 
--- settings by which all tables have the form and the range pattern that are asked for; or why nothing is asked for
+-- settings by which all tables have the form and the ranges that are asked for; or why nothing is asked for
 abbrev pub AsksFor : List ℕ → List ℕ → Result FormSettings Rejected → Type 0
 AsksFor locale skeleton (Ok settings) = (asked : FormSettings) × ((settings_asked locale skeleton ≡ Ok asked)
     × (((tables : List ℕ) → form_asked settings tables ≡ form_asked asked tables)
-    × ((tables : List ℕ) → pattern_asked settings tables ≡ pattern_asked asked tables)))
+    × ((tables : List ℕ) → ranges_asked settings tables ≡ ranges_asked asked tables)))
 AsksFor locale skeleton (Err rejected) = settings_asked locale skeleton ≡ Err rejected
 
 -- the status of a form that isn't made

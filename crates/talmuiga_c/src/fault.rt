@@ -3,7 +3,7 @@
 ghost use Rattle.std.specs.Prelude.{◌≡◌};
 ghost use Rattle.talmuiga_c.specs.SkeletonFaults.{fault_of, kind_number, no_fault, not_utf8_at, setting_number, thing_number, thing_of, unsupported_fault, unsupported_number};
 
-use number_forms::Unsupported;
+use number_formatters::Unsupported;
 use number_skeleton::{FaultKind, Setting, SkeletonFault, Thing};
 
 /// What is wrong with a skeleton; all zeros where nothing is.

@@ -10,10 +10,10 @@ ghost use Rattle.talmuiga_c.specs.Kept.{IsWrittenSoFar, IsShown, OpensIn, Writes
 
 use crate::form_lines::format_some_by;
 use crate::handle::Room;
+use crate::locale_ranges::LocaleRanges;
 use crate::output::put_text;
 use crate::status::{self, status_of, text_status};
 use decimal_lines::{FillError, Mode, Progress, TextError, Words, format_some, format_text};
-use icu_ranges::RangePattern;
 use number_forms::Form;
 use std::alloc::Global;
 
@@ -28,8 +28,8 @@ pub enum Kept {
     ByWords(Mode),
     /// A form, as a number skeleton asks for it.
     BySkeleton(Form),
-    /// A form, as a number skeleton asks for it, and the pattern that its ranges are written by.
-    WithRanges(Form, RangePattern),
+    /// A form, as a number skeleton asks for it, and how its ranges are written.
+    WithRanges(Form, LocaleRanges),
 }
 
 /// How far an input is answered.

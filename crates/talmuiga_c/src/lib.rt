@@ -14,6 +14,7 @@ mod held;
 mod judging;
 mod kept;
 mod listing;
+mod locale_ranges;
 mod marked;
 mod message_calls;
 mod message_fault;
@@ -284,7 +285,7 @@ pub extern "C" fn talmuiga_formatter_parts_sized(
 
 /// Opens a formatter that writes ranges too, by tables, a locale and a number skeleton. What is
 /// wrong with the skeleton is set, or zeros.
-// promise: Locale, skeleton and tables determine form and pattern.
+// promise: Locale, skeleton and tables determine form and ranges.
 // mutations: ranges_no_pattern_told_as_no_data, ranges_pattern_before_the_form
 #[unsafe(no_mangle)]
 pub extern "C" fn talmuiga_formatter_open_ranges_sized(
@@ -304,7 +305,7 @@ pub extern "C" fn talmuiga_formatter_open_ranges_sized(
 
 /// Opens a formatter in English that writes ranges too, by a number skeleton, without tables: by
 /// those of English that the library has. What is wrong with the skeleton is set, or zeros.
-// promise: A skeleton determines the English form and pattern.
+// promise: A skeleton determines the English form and ranges.
 // mutations: english_ranges_in_another_locale
 #[unsafe(no_mangle)]
 pub extern "C" fn talmuiga_formatter_open_english_ranges_sized(

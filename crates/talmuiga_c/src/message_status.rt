@@ -8,25 +8,25 @@ use icu_message::{Word, WriteError};
 use kept_messages::OpenError;
 
 /// The text isn't a message.
-pub const MESSAGE_REFUSED: u32 = 16;
+pub const MESSAGE_REFUSED: u32 = 15;
 
 /// An argument isn't given, or not in the form of its place.
-pub const MISSING_ARGUMENT: u32 = 17;
+pub const MISSING_ARGUMENT: u32 = 16;
 
 /// A text is given where the message wants a number.
-pub const NOT_A_NUMBER: u32 = 18;
+pub const NOT_A_NUMBER: u32 = 17;
 
 /// A number is given where the message picks by a text.
-pub const NOT_A_TEXT: u32 = 19;
+pub const NOT_A_TEXT: u32 = 18;
 
 /// A name, a text or a skeleton isn't UTF-8.
-pub const NOT_UTF8: u32 = 20;
+pub const NOT_UTF8: u32 = 19;
 
 /// The formatter was opened without a skeleton.
-pub const NO_FORM: u32 = 21;
+pub const NO_FORM: u32 = 20;
 
 /// The message has fewer places or names.
-pub const NO_SUCH_PLACE: u32 = 22;
+pub const NO_SUCH_PLACE: u32 = 21;
 
 /// Where a word stands in the text of a message, in bytes; zeros where there is none.
 #[repr(C)]

@@ -13,21 +13,18 @@ use number_ranges::RangeTextError;
 /// without one.
 pub const NO_PATTERN: u32 = 10;
 
-/// The formatter writes numbers with a unit or with the name of a currency, which have no ranges.
-pub const NO_RANGES: u32 = 11;
-
 /// The start is above the end.
-pub const DESCENDING: u32 = 12;
+pub const DESCENDING: u32 = 11;
 
 /// The end isn't a decimal.
-pub const END_NOT_DECIMAL: u32 = 13;
+pub const END_NOT_DECIMAL: u32 = 12;
 
 /// The end has a digit at a power of ten past the limits.
-pub const END_TOO_MANY_DIGITS: u32 = 14;
+pub const END_TOO_MANY_DIGITS: u32 = 13;
 
 /// The number that is shown of the end would be ten to the power 32768 or more, or have a digit at
 /// a power past the limits.
-pub const END_OVERFLOW: u32 = 15;
+pub const END_OVERFLOW: u32 = 14;
 
 /// The status where there is no pattern.
 pub fn pattern_status(error: StartError) -> u32
@@ -57,7 +54,6 @@ pub fn range_status(error: RangeTextError) -> u32
     ensures { result ≡ range_status error }
 {
     match error {
-        RangeTextError::Unsupported => NO_RANGES,
         RangeTextError::Start(error) => text_status(error),
         RangeTextError::End(error) => end_status(error),
         RangeTextError::Descending => DESCENDING,

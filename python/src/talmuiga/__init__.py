@@ -25,7 +25,7 @@ from typing import Any, Iterable, List, Literal, Optional, Sequence, SupportsFlo
 from . import _library
 from .options import skeleton_of
 
-__all__ = ["ArgumentRefused", "Descending", "Formatter", "Message", "MessageRefused", "NoData", "NoPattern", "NoRanges", "NotFormatted",
+__all__ = ["ArgumentRefused", "Descending", "Formatter", "Message", "MessageRefused", "NoData", "NoPattern", "NotFormatted",
            "Number", "Refused", "SkeletonRefused", "TablesRefused", "WordsRefused", "canonical_skeleton", "names_in", "skeleton_of",
            "tables_fault"]
 __version__ = "0.2.0"
@@ -41,10 +41,10 @@ OUT_OF_MEMORY, WORDS_REFUSED, TABLES_REFUSED, NO_DATA = 1, 2, 3, 4
 REASONS = {6: "not a decimal", 7: "too many digits", 8: "overflow"}
 
 #: Statuses of ranges in the library for C.
-NO_PATTERN, NO_RANGES, DESCENDING = 10, 11, 12
+NO_PATTERN, DESCENDING = 10, 11
 
 #: Why the end of a range isn't formatted, by its status.
-END_REASONS = {13: "not a decimal", 14: "too many digits", 15: "overflow"}
+END_REASONS = {12: "not a decimal", 13: "too many digits", 14: "overflow"}
 
 #: The names of parts, by their numbers in the library for C.
 PARTS = {1: "minusSign", 2: "plusSign", 3: "integer", 4: "fraction", 5: "group", 6: "decimal", 7: "currency",
@@ -101,10 +101,6 @@ class NoData(Refused):
 
 class NoPattern(Refused):
     """The tables have no range pattern for the locale, or the formatter was made without ranges."""
-
-
-class NoRanges(ValueError):
-    """The formatter writes numbers with a unit or with the name of a currency, which have no ranges."""
 
 
 class Descending(ValueError):
@@ -198,8 +194,6 @@ def range_refusal(status: int, start: str, end: str) -> Exception:
     """The exception of a range that isn't formatted."""
     if status == NO_PATTERN:
         return NoPattern("the formatter was made without ranges")
-    if status == NO_RANGES:
-        return NoRanges("numbers with a unit or a name have no ranges")
     if status == DESCENDING:
         return Descending(f"the start is above the end: {start!r}, {end!r}")
     if status in END_REASONS:
@@ -242,7 +236,7 @@ class Formatter:
     auto, never, always or min2; without it the style decides. `fraction` rounds half to even to so many digits behind the point,
     in a compact number behind that of its significand. In the place of these four `skeleton` is a number skeleton, as
     `currency/EUR` or `%x100 .0`; `skeleton_of` makes one of options. The library rounds, and Python computes nothing. With `ranges` a
-    formatter by a skeleton or a fraction has `format_range` too, by the locale's range pattern in the tables.
+    formatter by a skeleton or a fraction has `format_range` too, by the locale's range pattern and categories of ranges in the tables.
 
     What can't be is refused here, by `WordsRefused`, `SkeletonRefused` (with byte and kind), `TablesRefused`, `NoData` or `NoPattern`,
     and if memory runs out, by `MemoryError`.
@@ -339,10 +333,10 @@ class Formatter:
         return text, [(begin, end, PARTS.get(part, "other")) for begin, end, part in spans]
 
     def format_range(self, start: Number, end: Number) -> str:
-        """The text of the range of two numbers, as '3–5', by a formatter with ranges; of equal texts the text alone.
+        """The text of the range of two numbers, as '3–5' or '0–1 kilometers', by a formatter with ranges; of equal texts one, as '~3'.
 
         `NotFormatted` where a number has no text, with index 0 for the start and 1 for the end; `Descending` where the start is above
-        the end; `NoRanges` for numbers with a unit or a name; `NoPattern` where the formatter was made without ranges.
+        the end; `NoPattern` where the formatter was made without ranges.
         """
         first, last = text_of(start), text_of(end)
         shown = _library.range(self._opened, first, last)

@@ -95,6 +95,44 @@ static PyObject *open_english(PyObject *Py_UNUSED(module), PyObject *Py_UNUSED(n
     return opened(status, formatter);
 }
 
+/* ---- Texts that calls write. */
+
+/* Where a call writes a text: a small room, or one for a text that is longer. */
+struct output {
+    char few[ROOM], *at;
+    size_t room, length;
+};
+
+static void begin(struct output *output) {
+    output->at = output->few;
+    output->room = ROOM;
+    output->length = 0;
+}
+
+/* Makes room for a text that didn't fit; whether the call has to write it again. Without memory there is an exception and no room. */
+static int grows_to_fit(struct output *output) {
+    if (output->length <= output->room) return 0;
+    output->room = output->length;
+    output->at = (char *)PyMem_Malloc(output->room);
+    if (!output->at) PyErr_NoMemory();
+    return output->at != NULL;
+}
+
+static PyObject *text_in(const struct output *output) {
+    return PyUnicode_DecodeUTF8(output->at, (Py_ssize_t)output->length, NULL);
+}
+
+/* The answer, behind which the room is let go. */
+static PyObject *ended(const struct output *output, PyObject *answer) {
+    if (output->at != output->few) PyMem_Free(output->at);
+    return answer;
+}
+
+/* The text, or the status where there is none. */
+static PyObject *text_or_status(const struct output *output, uint32_t status) {
+    return ended(output, status ? PyLong_FromUnsignedLong(status) : text_in(output));
+}
+
 /* ---- The texts of numbers. */
 
 enum { SHORT = 32 };
@@ -193,18 +231,12 @@ static PyObject *no_text(void) {
 
 /* The text that a decimal's text is formatted to, or the status where it isn't. */
 static PyObject *shown_bytes(const talmuiga_formatter *formatter, const char *text, size_t len) {
-    char room[ROOM], *output = room;
-    size_t length;
-    uint32_t status = talmuiga_formatter_one(formatter, text, len, output, ROOM, &length);
-    if (status == TALMUIGA_OUTPUT_TOO_SMALL) {
-        output = (char *)PyMem_Malloc(length);
-        if (!output) return PyErr_NoMemory();
-        status = talmuiga_formatter_one(formatter, text, len, output, length, &length);
-    }
-    PyObject *answer =
-        status ? PyLong_FromUnsignedLong(status) : PyUnicode_DecodeUTF8(output, (Py_ssize_t)length, NULL);
-    if (output != room) PyMem_Free(output);
-    return answer;
+    struct output output;
+    uint32_t status;
+    begin(&output);
+    do status = talmuiga_formatter_one(formatter, text, len, output.at, output.room, &output.length);
+    while (grows_to_fit(&output));
+    return output.at ? text_or_status(&output, status) : NULL;
 }
 
 /* The same of a str. */
@@ -308,24 +340,20 @@ static const char *end_of(PyObject *number, Py_ssize_t *len) {
 
 /* The text of the range of two str, or the status where it has none. */
 static PyObject *range(PyObject *Py_UNUSED(module), PyObject *words) {
-    char room[ROOM], *output = room;
+    struct output output;
     PyObject *capsule, *first, *last;
     Py_ssize_t start_len, end_len;
-    size_t length;
+    uint32_t status;
     if (!PyArg_ParseTuple(words, "OUU", &capsule, &first, &last)) return NULL;
     const talmuiga_formatter *formatter = (const talmuiga_formatter *)PyCapsule_GetPointer(capsule, NAME);
     const char *start = formatter ? end_of(first, &start_len) : NULL, *end = start ? end_of(last, &end_len) : NULL;
     if (!end) return NULL;
-    uint32_t status = talmuiga_formatter_range(formatter, start, (size_t)start_len, end, (size_t)end_len, output, ROOM, &length);
-    if (status == TALMUIGA_OUTPUT_TOO_SMALL) {
-        output = (char *)PyMem_Malloc(length);
-        if (!output) return PyErr_NoMemory();
-        status = talmuiga_formatter_range(formatter, start, (size_t)start_len, end, (size_t)end_len, output, length, &length);
-    }
-    PyObject *answer =
-        status ? PyLong_FromUnsignedLong(status) : PyUnicode_DecodeUTF8(output, (Py_ssize_t)length, NULL);
-    if (output != room) PyMem_Free(output);
-    return answer;
+    begin(&output);
+    do {
+        status = talmuiga_formatter_range(formatter, start, (size_t)start_len, end, (size_t)end_len, output.at, output.room,
+                                          &output.length);
+    } while (grows_to_fit(&output));
+    return output.at ? text_or_status(&output, status) : NULL;
 }
 
 /* ---- Many numbers: read with the interpreter's lock, formatted without it, made into texts with it again, a thousand at
@@ -534,62 +562,47 @@ static PyObject *raw(PyObject *Py_UNUSED(module), PyObject *words) {
 
 /* Why tables are refused, in words; nothing where they are accepted. */
 static PyObject *fault(PyObject *Py_UNUSED(module), PyObject *words) {
-    char room[ROOM], *output = room;
+    struct output output;
     const char *tables;
     Py_ssize_t len;
-    size_t length;
+    uint32_t status;
     if (!PyArg_ParseTuple(words, "y#", &tables, &len)) return NULL;
-    uint32_t status = talmuiga_tables_fault(tables, (size_t)len, output, ROOM, &length);
-    if (length > ROOM) {
-        output = (char *)PyMem_Malloc(length);
-        if (!output) return PyErr_NoMemory();
-        status = talmuiga_tables_fault(tables, (size_t)len, output, length, &length);
-    }
-    PyObject *answer = status == TALMUIGA_OUT_OF_MEMORY ? PyErr_NoMemory()
-                                                        : PyUnicode_DecodeUTF8(output, (Py_ssize_t)length, NULL);
-    if (output != room) PyMem_Free(output);
-    return answer;
+    begin(&output);
+    do status = talmuiga_tables_fault(tables, (size_t)len, output.at, output.room, &output.length);
+    while (grows_to_fit(&output));
+    if (!output.at) return NULL;
+    return ended(&output, status == TALMUIGA_OUT_OF_MEMORY ? PyErr_NoMemory() : text_in(&output));
 }
 
 /* What tables hold of a kind, a name in each line, or the status. */
 static PyObject *list(PyObject *Py_UNUSED(module), PyObject *words) {
-    char room[ROOM], *output = room;
+    struct output output;
     const char *tables;
     Py_ssize_t len;
-    size_t length;
     unsigned kind;
+    uint32_t status;
     if (!PyArg_ParseTuple(words, "y#I", &tables, &len, &kind)) return NULL;
-    uint32_t status = talmuiga_tables_list(tables, (size_t)len, kind, output, ROOM, &length);
-    if (status == TALMUIGA_OUTPUT_TOO_SMALL) {
-        output = (char *)PyMem_Malloc(length);
-        if (!output) return PyErr_NoMemory();
-        status = talmuiga_tables_list(tables, (size_t)len, kind, output, length, &length);
-    }
-    PyObject *answer =
-        status ? PyLong_FromUnsignedLong(status) : PyUnicode_DecodeUTF8(output, (Py_ssize_t)length, NULL);
-    if (output != room) PyMem_Free(output);
-    return answer;
+    begin(&output);
+    do status = talmuiga_tables_list(tables, (size_t)len, kind, output.at, output.room, &output.length);
+    while (grows_to_fit(&output));
+    return output.at ? text_or_status(&output, status) : NULL;
 }
 
 /* The canonical text of a skeleton, or its fault. */
 static PyObject *canonical(PyObject *Py_UNUSED(module), PyObject *words) {
-    char room[ROOM], *output = room;
+    struct output output;
     const char *skeleton;
     Py_ssize_t len;
-    size_t length;
     talmuiga_fault found;
+    uint32_t status;
     if (!PyArg_ParseTuple(words, "y#", &skeleton, &len)) return NULL;
-    uint32_t status = talmuiga_skeleton_canonical(skeleton, (size_t)len, output, ROOM, &length, &found);
-    if (status == TALMUIGA_OUTPUT_TOO_SMALL) {
-        output = (char *)PyMem_Malloc(length);
-        if (!output) return PyErr_NoMemory();
-        status = talmuiga_skeleton_canonical(skeleton, (size_t)len, output, length, &length, &found);
-    }
-    PyObject *answer = status == TALMUIGA_OUT_OF_MEMORY      ? PyErr_NoMemory()
-                       : status == TALMUIGA_SKELETON_REFUSED ? triple_of(&found)
-                                                             : PyUnicode_DecodeUTF8(output, (Py_ssize_t)length, NULL);
-    if (output != room) PyMem_Free(output);
-    return answer;
+    begin(&output);
+    do status = talmuiga_skeleton_canonical(skeleton, (size_t)len, output.at, output.room, &output.length, &found);
+    while (grows_to_fit(&output));
+    if (!output.at) return NULL;
+    return ended(&output, status == TALMUIGA_OUT_OF_MEMORY      ? PyErr_NoMemory()
+                          : status == TALMUIGA_SKELETON_REFUSED ? triple_of(&found)
+                                                                : text_in(&output));
 }
 
 /* ---- Messages: capsules of their own. */
@@ -685,19 +698,15 @@ static uint32_t add_value(talmuiga_arguments *arguments, PyObject *value) {
 
 /* The text of a message with arguments; or the status, and where the name of the argument stands in the message's text. */
 static PyObject *written(const talmuiga_message *message, const talmuiga_arguments *arguments) {
-    char room[ROOM], *output = room;
-    size_t length;
+    struct output output;
     talmuiga_word name;
-    uint32_t status = talmuiga_message_write(message, arguments, output, ROOM, &length, &name);
-    if (status == TALMUIGA_OUTPUT_TOO_SMALL) {
-        output = (char *)PyMem_Malloc(length);
-        if (!output) return PyErr_NoMemory();
-        status = talmuiga_message_write(message, arguments, output, length, &length, &name);
-    }
-    PyObject *answer = status ? Py_BuildValue("(Inn)", (unsigned)status, (Py_ssize_t)name.start, (Py_ssize_t)name.end)
-                              : PyUnicode_DecodeUTF8(output, (Py_ssize_t)length, NULL);
-    if (output != room) PyMem_Free(output);
-    return answer;
+    uint32_t status;
+    begin(&output);
+    do status = talmuiga_message_write(message, arguments, output.at, output.room, &output.length, &name);
+    while (grows_to_fit(&output));
+    if (!output.at) return NULL;
+    return ended(&output, status ? Py_BuildValue("(Inn)", (unsigned)status, (Py_ssize_t)name.start, (Py_ssize_t)name.end)
+                                 : text_in(&output));
 }
 
 /* The text of a message with the values of a list; or why it isn't written, as above; or the status, the index of a value that isn't

@@ -20,7 +20,7 @@ Value = Union[Number, str]
 ARGUMENTS = {0: "any", 1: "number", 2: "text"}
 
 #: Why a message isn't written, by its status.
-WRITE_REASONS = {17: "missing", 18: "not a number", 19: "not a text", 20: "not UTF-8"}
+WRITE_REASONS = {16: "missing", 17: "not a number", 18: "not a text", 19: "not UTF-8"}
 
 #: The kinds of faults of messages, by their numbers in the library for C.
 MESSAGE_KINDS = {1: "notUtf8", 2: "tooLong", 3: "end", 4: "unopened", 5: "openQuote", 6: "tooDeep", 7: "name", 8: "kind", 9: "style",

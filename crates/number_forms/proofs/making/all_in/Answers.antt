@@ -1,7 +1,7 @@
 use Rattle.std.proofs.Common.{ap, subst}
 use Rattle.icu_dimension_tables.specs.AllTables.{all_tables_of}
 use Rattle.icu_dimension_tables.specs.ForLocale.{IsAllFor}
-use Rattle.number_forms.specs.Settings.{FormSettings}
+use Rattle.number_formatters.specs.Settings.{FormSettings}
 use Rattle.number_forms.proofs.Served.{fails-stops}
 use Rattle.number_forms.proofs.making.all_in.Goals as goal
 

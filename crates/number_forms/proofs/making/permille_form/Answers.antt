@@ -1,20 +1,20 @@
 use Rattle.std.proofs.Common.{rules}
 use Rattle.icu_dimension_tables.specs.AllTables.{AllData}
-use Rattle.number_forms.specs.Loaded.{permille_loaded}
-use Rattle.number_forms.specs.Making.{started}
+use Rattle.number_formatters.specs.Loaded.{permille_loaded}
+use Rattle.number_forms.specs.Making.{form_started}
 use Rattle.number_forms.proofs.ServedAll.{permille-same, with_all-for}
 use Rattle.number_forms.proofs.making.permille_form.Goals as goal
 
 pub returns-in_err-all : goal.returns-in_err-all
 returns-in_err-all c =
     let load = permille_loaded c.args.settings.now in
-    let told = c.in_err-all.ensures.refused (λ (all : AllData). started (load all.numbers all.dimension)) in
+    let told = c.in_err-all.ensures.refused (λ (all : AllData). form_started c.args.settings.now (load all.numbers all.dimension)) in
     search (rules, told, c.from_residual.ensures)
 
 pub returns : goal.returns
 returns c =
     let kept = c.in_ok-all.all in
     let load = permille_loaded c.args.settings.now in
-    rw (with_all-for c.args.settings.now.locale c.args.text.now kept load c.in_ok-all.ensures.tables (λ all answers.
+    rw (with_all-for c.args.settings.now c.args.text.now kept load c.in_ok-all.ensures.tables (λ all answers.
     permille-same c.args.settings.now kept all answers))
     (c.started.ensures (load kept.numbers kept.dimension) c.load_permille.ensures)

@@ -1,18 +1,18 @@
 use Rattle.std.proofs.Common.{rules}
-use Rattle.number_forms.specs.Loaded.{short_loaded}
-use Rattle.number_forms.specs.Making.{started}
+use Rattle.number_formatters.specs.Loaded.{short_loaded}
+use Rattle.number_forms.specs.Making.{form_started}
 use Rattle.number_forms.proofs.Served.{short-same, with_tables-for}
 use Rattle.number_forms.proofs.making.short_form.Goals as goal
 
 pub returns-in_err-tables : goal.returns-in_err-tables
 returns-in_err-tables c =
-    let told = c.in_err-tables.ensures.refused (λ tables. started (short_loaded c.args.settings.now tables)) in
+    let told = c.in_err-tables.ensures.refused (λ tables. form_started c.args.settings.now (short_loaded c.args.settings.now tables)) in
     search (rules, told, c.from_residual.ensures)
 
 pub returns : goal.returns
 returns c =
     let kept = c.in_ok-tables.tables in
     let load = short_loaded c.args.settings.now in
-    rw (with_tables-for c.args.settings.now.locale c.args.text.now kept load c.in_ok-tables.ensures.tables (λ all answers.
+    rw (with_tables-for c.args.settings.now c.args.text.now kept load c.in_ok-tables.ensures.tables (λ all answers.
     short-same c.args.settings.now kept all answers))
     (c.started.ensures (load kept) c.load_short.ensures)

@@ -1,7 +1,7 @@
 use Rattle.std.proofs.Common.{ap, subst}
 use Rattle.icu_tables.specs.ForLocale.{IsFor}
 use Rattle.icu_tables.specs.Tables.{tables_of}
-use Rattle.number_forms.specs.Settings.{FormSettings}
+use Rattle.number_formatters.specs.Settings.{FormSettings}
 use Rattle.number_forms.proofs.Served.{fails-stops}
 use Rattle.number_forms.proofs.making.tables_in.Goals as goal
 

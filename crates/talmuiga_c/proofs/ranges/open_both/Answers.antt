@@ -1,5 +1,5 @@
 use Rattle.std.proofs.Common.{◌≡◌, Ok}
-use Rattle.talmuiga_c.specs.Patterns.{pattern_asked}
+use Rattle.talmuiga_c.specs.LocaleRanges.{ranges_asked}
 use Rattle.talmuiga_c.specs.Skeletons.{form_asked}
 use Rattle.talmuiga_c.proofs.Patterned.{unformed-stays}
 use Rattle.talmuiga_c.proofs.Unformed.{form-made}
@@ -14,5 +14,5 @@ returns-in-Ok c =
 pub returns-in-Err : goal.returns-in-Err
 returns-in-Err c = record {
   opens = rw c.form_status.ensures (unformed-stays c.args.formatter.now.held c.requires.empty c.args.settings.now c.args.tables.now
-      (pattern_asked c.args.settings.now c.args.tables.now) c.in-Err.error c.in-Err.ensures.text c.in-Err.ensures.no_text);
+      (ranges_asked c.args.settings.now c.args.tables.now) c.in-Err.error c.in-Err.ensures.text c.in-Err.ensures.no_text);
 }

@@ -5,7 +5,8 @@ use crate::reports::slow::{Full, SlowWriter};
 use fixed_decimal::{SignDisplay, SignedRoundingMode, UnsignedRoundingMode};
 use icu_provider::DataLocale;
 use locnum_lines::{Delimiter, FieldRange, LineSettings, Refusals, Report, RunError, Source, run};
-use number_forms::{Form, Kind, Settings, StartError};
+use number_formatters::{Kind, Settings};
+use number_forms::{Form, StartError};
 use rows::SlowReader;
 use std::alloc::{AllocError, Global};
 

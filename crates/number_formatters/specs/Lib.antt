@@ -1,0 +1,4 @@
+pub mod Settings
+pub mod Grouped
+pub mod Skeleton
+pub mod Loaded
