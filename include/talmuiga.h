@@ -63,6 +63,12 @@ enum {
     TALMUIGA_NO_SUCH_PLACE = 21     /* the message has fewer places or names */
 };
 
+/* How a call that reads the text of a number back ends besides. */
+enum {
+    TALMUIGA_NOT_READ = 22,  /* the text isn't that of any number, as the formatter writes numbers */
+    TALMUIGA_NO_READING = 23 /* the formatter writes other texts than those of plain numbers, or they don't tell their numbers */
+};
+
 /* Formats the lines of the input in plain English, as 1,234.5.
  *
  * With TALMUIGA_DONE the first *written bytes of the output are the output of the whole input. With
@@ -278,6 +284,25 @@ uint32_t talmuiga_formatter_one_sized(talmuiga_formatter *formatter, const uint8
 uint32_t talmuiga_formatter_parts_sized(talmuiga_formatter *formatter, const uint8_t *text, size_t text_len,
                                         uint8_t *output, size_t output_len, size_t *length, talmuiga_span *spans,
                                         size_t spans_len, size_t *count);
+
+/* Reads the text of a number back: in the digits, signs and separators of the formatter's locale, with the groups that it writes or with
+ * none. What is read is the number that the text shows: where the formatter scales or rounds, or shows no sign, this isn't taken back.
+ *
+ * With TALMUIGA_DONE the first *length bytes of the output are the decimal, as -1234.50: the sign of the text, if it has one, each of its
+ * digits, and a point before those of the fraction. With TALMUIGA_OUTPUT_TOO_SMALL the output is as it was, and *length says how long the
+ * decimal is. With each other status the output is as it was and *length is 0:
+ * - TALMUIGA_NO_READING: the formatter writes compact numbers, money, percents or units; or its texts don't tell their numbers, as where
+ *   the separators of groups and of the fraction are the same. It comes whatever the text is, and nothing comes in place of it;
+ * - TALMUIGA_NOT_READ: the text isn't that of any number. *byte says where: the first byte that isn't UTF-8, or else that of the first
+ *   character at which the text differs from each text of the numbers that its digits make; the length of the text if it ends too early,
+ *   and 0 if its digits make no number. Of 12,34 in English it is 2. Nothing is skipped: no spaces, and no groups of another size;
+ * - TALMUIGA_OUT_OF_MEMORY.
+ * With each status but TALMUIGA_NOT_READ *byte is 0. Each text that the formatter writes is read, unless memory runs out.
+ *
+ * The caller owes that the formatter is open, and that *byte overlaps nothing else of the call, and may use the formatter on several
+ * threads at once, as of talmuiga_formatter_format_sized. */
+uint32_t talmuiga_formatter_read_sized(talmuiga_formatter *formatter, const uint8_t *text, size_t text_len, uint8_t *output,
+                                       size_t output_len, size_t *length, size_t *byte);
 
 /* Opens a formatter that writes ranges too, by tables, a locale and a number skeleton. The locale's range pattern is read once, here,
  * under the tables' key `ranges`, and so are its plural categories of ranges under `plural_ranges`: a locale that has none there has the
@@ -503,6 +528,8 @@ static inline const char *talmuiga_status_text(uint32_t status) {
         case TALMUIGA_NOT_UTF8: return "not UTF-8";
         case TALMUIGA_NO_FORM: return "the formatter has no skeleton";
         case TALMUIGA_NO_SUCH_PLACE: return "no such place or name";
+        case TALMUIGA_NOT_READ: return "not a number's text";
+        case TALMUIGA_NO_READING: return "the formatter reads no texts";
         default: return "no such status";
     }
 }
@@ -718,6 +745,16 @@ static inline uint32_t talmuiga_formatter_parts(const talmuiga_formatter *format
     return talmuiga_formatter_parts_sized(&copy, talmuiga_bytes(text), text_len, talmuiga_room(output),
                                           talmuiga_room_len(output_len), length, spans ? spans : &none,
                                           spans_len < most ? spans_len : most, count);
+}
+
+/* talmuiga_formatter_read_sized, where a pointer with length 0 and the byte may be null, and the output may be longer than PTRDIFF_MAX. Any
+ * number of threads may read with one formatter at once. */
+static inline uint32_t talmuiga_formatter_read(const talmuiga_formatter *formatter, const char *text, size_t text_len, char *output,
+                                               size_t output_len, size_t *length, size_t *byte) {
+    talmuiga_formatter copy = *formatter;
+    size_t unseen;
+    return talmuiga_formatter_read_sized(&copy, talmuiga_bytes(text), text_len, talmuiga_room(output),
+                                         talmuiga_room_len(output_len), length, byte ? byte : &unseen);
 }
 
 /* talmuiga_formatter_range_sized, where a pointer with length 0 may be null, and the output may be longer than PTRDIFF_MAX. Any number

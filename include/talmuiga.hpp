@@ -56,6 +56,16 @@ public:
         : text_refused(TALMUIGA_SKELETON_REFUSED, talmuiga_fault_text(&fault), fault) {}
 };
 
+/* A text that isn't a number's: byte() is the first at which it differs from the texts of numbers. */
+class not_read : public refused {
+public:
+    explicit not_read(std::size_t byte) : refused(TALMUIGA_NOT_READ), byte_(byte) {}
+    std::size_t byte() const noexcept { return byte_; }
+
+private:
+    std::size_t byte_;
+};
+
 /* The text of a number skeleton, as "currency/EUR" or "compact-short". */
 struct skeleton {
     std::string_view text;
@@ -215,6 +225,22 @@ public:
             if (status != TALMUIGA_OUTPUT_TOO_SMALL) {
                 judge(status);
                 return marked;
+            }
+        }
+    }
+
+    /* The decimal of a number's text, as talmuiga_formatter_read reads it; not_read where it is no number's. */
+    std::string read(std::string_view text) const {
+        std::string number(text.size(), '\0');
+        for (;;) {
+            std::size_t length, byte;
+            std::uint32_t status =
+                talmuiga_formatter_read(held_.get(), text.data(), text.size(), number.data(), number.size(), &length, &byte);
+            number.resize(length);
+            if (status == TALMUIGA_NOT_READ) throw not_read(byte);
+            if (status != TALMUIGA_OUTPUT_TOO_SMALL) {
+                judge(status);
+                return number;
             }
         }
     }

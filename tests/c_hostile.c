@@ -1,6 +1,6 @@
-/* Bad input for the library for C, by a file of tables with money: numbers that are none, by each kind of formatter; tables that are cut
- * short, changed, or of another version; rooms of closed formatters that are used again; and eight threads that format with one
- * formatter while they open and close others. */
+/* Bad input for the library for C, by a file of tables with money: numbers that are none, by each kind of formatter; random texts that are
+ * read as numbers; tables that are cut short, changed, or of another version; rooms of closed formatters that are used again; and eight
+ * threads that format with one formatter while they open and close others. */
 #include "talmuiga.h"
 
 #include <pthread.h>
@@ -88,6 +88,52 @@ static void judge_numbers(void) {
         judge("shown again", (size_t)kind, formatter && shows(formatter, kind));
         talmuiga_formatter_close(formatter);
     }
+}
+
+/* A formatter of plain German numbers with a strategy for groups. */
+static talmuiga_formatter *german(const char *grouping) {
+    talmuiga_formatter *formatter = NULL;
+    talmuiga_formatter_open(tables, tables_len, "de", "-", "plain", grouping, &formatter);
+    return formatter;
+}
+
+/* Whether a formatter writes this text of a decimal. */
+static int writes(const talmuiga_formatter *formatter, const char *decimal, size_t decimal_len, const char *text, size_t len) {
+    char output[ROOM];
+    size_t length;
+    uint32_t status = talmuiga_formatter_one(formatter, decimal, decimal_len, output, ROOM, &length);
+    return status == TALMUIGA_DONE && length == len && memcmp(output, text, len) == 0;
+}
+
+/* Random texts of the bytes of numbers, and of one that is no text: what is read of one is written again in the same bytes, with groups or
+ * with none; in another the byte of the fault stands in it, or behind its end. */
+static void judge_texts(void) {
+    static const char bytes[] = "0123456789012345678901234567890123456789....,,-+ \xff";
+    talmuiga_formatter *grouped = german(NULL), *ungrouped = german("never");
+    uint32_t seed = 22;
+    size_t read = 0;
+    judge("German", 0, grouped && ungrouped);
+    for (size_t time = 0; grouped && ungrouped && time < 100 * TIMES; time++) {
+        char text[8], decimal[ROOM];
+        size_t len = time % sizeof text, length = 99, byte = 99;
+        for (size_t at = 0; at < len; at++) {
+            seed = seed * 1103515245u + 12345u;
+            text[at] = bytes[(seed >> 16) % (sizeof bytes - 1)];
+        }
+        memset(decimal, 'x', ROOM);
+        uint32_t status = talmuiga_formatter_read(grouped, text, len, decimal, ROOM, &length, &byte);
+        if (status == TALMUIGA_DONE) {
+            read++;
+            judge("a text that is read", time, byte == 0 && decimal[length] == 'x');
+            judge("a text that is read is written again", time,
+                  writes(grouped, decimal, length, text, len) || writes(ungrouped, decimal, length, text, len));
+        } else {
+            judge("a text that isn't read", time, status == TALMUIGA_NOT_READ && length == 0 && byte <= len && decimal[0] == 'x');
+        }
+    }
+    judge("so many texts are read", read, read > TIMES);
+    talmuiga_formatter_close(grouped);
+    talmuiga_formatter_close(ungrouped);
 }
 
 /* The status of a price's formatter by some bytes of tables. */
@@ -231,6 +277,7 @@ int main(int count, char **words) {
     tables_len = fread(tables, 1, MOST, file);
     fclose(file);
     judge_numbers();
+    judge_texts();
     judge_damaged();
     judge_versions();
     judge_rooms();

@@ -1,7 +1,7 @@
 /* Formatters that are kept, by the tables of the first word, the words behind it, the file of lines behind these and the file
  * of what decfmt answers; if the system is `skeleton`, the style is a number skeleton. In rooms of each length, piece by
- * piece, number by number and with each number's parts, in eight threads at once, opened and closed ten thousand times, refused
- * and null. */
+ * piece, number by number and with each number's parts, each number's text read back, in eight threads at once, opened and closed
+ * ten thousand times, refused and null. */
 #include "talmuiga.h"
 
 #include <malloc.h>
@@ -18,6 +18,8 @@ struct text {
 
 static struct text tables, lines, wanted;
 static const talmuiga_formatter *shared;
+/* whether numbers are written in full, so that their texts are read */
+static bool is_plain;
 static int failed;
 
 static void tell(const char *what, size_t number) {
@@ -79,6 +81,31 @@ static bool has_parts(const talmuiga_formatter *formatter, const char *number, s
     return status == TALMUIGA_OUTPUT_TOO_SMALL && many == count && spans[0].part == 99 && memcmp(output, want, want_len) == 0;
 }
 
+/* Whether a number's text is read back as the number, with a zero before a point at its front, and not in a room that is too small by
+ * one; or isn't read, where numbers aren't written in full. */
+static bool reads_back(const talmuiga_formatter *formatter, const char *number, size_t len, const char *text, size_t text_len) {
+    char decimal[512], output[512];
+    const size_t sign_len = len && (number[0] == '-' || number[0] == '+'), has_point = len > sign_len && number[sign_len] == '.';
+    const size_t decimal_len = len + has_point;
+    size_t length = 7, byte = 7;
+    memcpy(decimal, number, sign_len);
+    decimal[sign_len] = '0';
+    memcpy(decimal + sign_len + has_point, number + sign_len, len - sign_len);
+    memset(output, 'x', sizeof output);
+    uint32_t status = talmuiga_formatter_read(formatter, text, text_len, output, sizeof output, &length, &byte);
+    if (!is_plain) return status == TALMUIGA_NO_READING && length == 0 && byte == 0 && output[0] == 'x';
+    if (status || byte || length != decimal_len || memcmp(output, decimal, length) || output[length] != 'x') return false;
+    memset(output, 'x', sizeof output);
+    status = talmuiga_formatter_read(formatter, text, text_len, output, decimal_len - 1, &length, &byte);
+    if (status != TALMUIGA_OUTPUT_TOO_SMALL || byte || length != decimal_len || output[0] != 'x') return false;
+    /* a blank behind it is at fault */
+    char longer[512];
+    memcpy(longer, text, text_len);
+    longer[text_len] = ' ';
+    status = talmuiga_formatter_read(formatter, longer, text_len + 1, output, sizeof output, &length, &byte);
+    return status == TALMUIGA_NOT_READ && length == 0 && byte == text_len && output[0] == 'x';
+}
+
 /* Whether each line's number, alone, is answered as wanted, or refused where an error line is wanted. */
 static bool numbers_alone(const talmuiga_formatter *formatter) {
     const char *end = lines.bytes + lines.len, *want = wanted.bytes;
@@ -103,6 +130,7 @@ static bool numbers_alone(const talmuiga_formatter *formatter) {
             status = talmuiga_formatter_one(formatter, line, len, output, want_len - 1, &length);
             if (status != TALMUIGA_OUTPUT_TOO_SMALL || length != want_len || output[0] != 'x') return false;
             if (!has_parts(formatter, line, len, want, want_len)) return false;
+            if (!reads_back(formatter, line, len, want, want_len)) return false;
         }
         line = stop + 1;
         want = want_end + 1;
@@ -167,6 +195,7 @@ int main(int count, char **words) {
     if (count != 8 || !read_file(words[1], &tables) || !read_file(words[6], &lines) || !read_file(words[7], &wanted)) {
         return fputs("c_kept: TABLES LOCALE SYSTEM STYLE GROUPING LINES WANTED\n", stderr), 2;
     }
+    is_plain = strcmp(words[4], "plain") == 0;
     talmuiga_formatter *formatter;
     uint32_t status = opened_by(words + 2, &formatter);
     if (status) return fprintf(stderr, "c_kept: %s\n", talmuiga_status_text(status)), 1;

@@ -35,8 +35,8 @@ build_after_ci() {
     for library in "$root"/crates/*/out/rlib; do
         words+=(-L "dependency=$library")
     done
-    for name in decimal_lines icu_decimal icu_decimal_options icu_message icu_plurals icu_provider icu_range_tables icu_ranges \
-        icu_table_entries icu_tables icu_unit_ranges kept_messages number_formatters number_forms number_ranges number_skeleton \
+    for name in decimal_lines fixed_decimal icu_decimal icu_decimal_options icu_decimal_readable icu_decimal_reading icu_message \
+        icu_plurals icu_provider icu_range_tables icu_ranges icu_table_entries icu_tables icu_unit_ranges kept_messages number_formatters number_forms number_ranges number_skeleton \
         skeleton_settings writeable; do
         words+=(--extern "$name=$root/crates/$name/out/rlib/$name.rlib")
     done

@@ -1,6 +1,6 @@
 /* Formatters that are kept, where one allocation finds no memory (tests/refuse_nth.c, loaded before): by the tables of the
  * first word one is opened by words and one by a skeleton, each formats lines, one number and its parts, and is closed; a third one, in
- * English, writes a range, and a message is opened, given two values and written. Then other tables are judged and listed, and a canonical text is written. What was refused is asked once more,
+ * English, writes a range, a fourth reads texts of numbers back, and a message is opened, given two values and written. Then other tables are judged and listed, and a canonical text is written. What was refused is asked once more,
  * and then all is as ever; where it was refused nothing else is told. The tables lie in memory of their own, which isn't refused. */
 #include "talmuiga.h"
 
@@ -70,6 +70,32 @@ static int writes_range(void) {
     return 0;
 }
 
+/* Reads a number's text back, with its groups and without, and one that is no number's; 0, or another status of this program. */
+static int reads_back(void) {
+    static const struct {
+        const char *text;
+        uint32_t status;
+        size_t length, byte;
+    } texts[] = {{"-1,234.50", TALMUIGA_DONE, 8, 0}, {"-1234.50", TALMUIGA_DONE, 8, 0}, {"12,34", TALMUIGA_NOT_READ, 0, 2}};
+    talmuiga_formatter *formatter;
+    uint32_t status = talmuiga_formatter_open_english(&formatter);
+    if (status == TALMUIGA_OUT_OF_MEMORY && !formatter) status = talmuiga_formatter_open_english(&formatter);
+    if (status) return 21;
+    for (size_t row = 0; row < sizeof texts / sizeof *texts; row++) {
+        const char *text = texts[row].text;
+        size_t length, byte;
+        memcpy(output, "xx", 2);
+        status = talmuiga_formatter_read(formatter, text, strlen(text), output, sizeof output, &length, &byte);
+        if (status == TALMUIGA_OUT_OF_MEMORY && length == 0 && byte == 0 && output[0] == 'x') {
+            status = talmuiga_formatter_read(formatter, text, strlen(text), output, sizeof output, &length, &byte);
+        }
+        if (status != texts[row].status || length != texts[row].length || byte != texts[row].byte) return 22;
+        if (memcmp(output, "-1234.50", length)) return 23;
+    }
+    talmuiga_formatter_close(formatter);
+    return 0;
+}
+
 /* Writes a message by the tables with a number in a place of its own and a text; 0, or another status of this program. */
 static int writes_message(size_t len) {
     static const char text[] = "{who}: {n, plural, one{# file} other{# files}}, {n, number, ::K}";
@@ -128,6 +154,8 @@ int main(int count, char **words) {
     }
     int no_range = writes_range();
     if (no_range) return no_range;
+    int no_reading = reads_back();
+    if (no_reading) return no_reading;
     int no_message = writes_message(len);
     if (no_message) return no_message;
     memcpy(output, "xx", 2);

@@ -1,5 +1,5 @@
 /* What single calls of the library for C answer, a row each: lines in English and by tables, lines by a kept formatter, one
- * number and its parts, why tables are rejected, and which names they have. Each row has a room of its own, whose bytes behind the answer have to
+ * number and its parts, the text of a number that is read back, why tables are rejected, and which names they have. Each row has a room of its own, whose bytes behind the answer have to
  * stay as they were. */
 #include "talmuiga.h"
 
@@ -177,6 +177,107 @@ static void judge_parts(talmuiga_formatter *formatter, size_t row) {
               holds(room, parts[row].output, strlen(parts[row].output)) && are_spans(spans, row));
 }
 
+/* German and Bengali numbers as CLDR has them; and numbers whose separators are the same, in `xx`. */
+static const char other_tables[] =
+    "{\"symbols\":[{\"locale\":\"de\",\"minus\":[\"-\",\"\"],\"plus\":[\"+\",\"\"],"
+    "\"decimal\":\",\",\"group\":\".\",\"numsys\":\"latn\",\"sizes\":[3,3,1]},"
+    "{\"locale\":\"bn\",\"minus\":[\"-\",\"\"],\"plus\":[\"+\",\"\"],"
+    "\"decimal\":\".\",\"group\":\",\",\"numsys\":\"beng\",\"sizes\":[3,2,1]},"
+    "{\"locale\":\"xx\",\"minus\":[\"-\",\"\"],\"plus\":[\"+\",\"\"],"
+    "\"decimal\":\",\",\"group\":\",\",\"numsys\":\"latn\",\"sizes\":[3,3,1]}],"
+    "\"digits\":[[\"latn\",\"0123456789\"],[\"beng\",\"০১২৩৪৫৬৭৮৯\"]],\"rules\":[]}";
+
+/* A locale of these tables, or none for English, and a skeleton, or none; a text; and what reading it ends in: a status, the byte of a
+ * fault, and a decimal. */
+static const struct {
+    const char *locale, *skeleton, *text;
+    uint32_t status;
+    size_t byte;
+    const char *decimal;
+} reading[] = {
+    {NULL, NULL, "0", TALMUIGA_DONE, 0, "0"},
+    {NULL, NULL, "1,234", TALMUIGA_DONE, 0, "1234"},
+    {NULL, NULL, "-1,234.50", TALMUIGA_DONE, 0, "-1234.50"},
+    {NULL, NULL, "1234567", TALMUIGA_DONE, 0, "1234567"},
+    {NULL, NULL, "+7", TALMUIGA_DONE, 0, "+7"},
+    {NULL, NULL, "-0", TALMUIGA_DONE, 0, "-0"},
+    {NULL, NULL, "001,234", TALMUIGA_DONE, 0, "001234"},
+    {NULL, NULL, "12,34", TALMUIGA_NOT_READ, 2, ""},
+    {NULL, NULL, "1,234x", TALMUIGA_NOT_READ, 5, ""},
+    {NULL, NULL, "1,234.", TALMUIGA_NOT_READ, 5, ""},
+    {NULL, NULL, "1 234", TALMUIGA_NOT_READ, 1, ""},
+    {NULL, NULL, "5\n", TALMUIGA_NOT_READ, 1, ""},
+    {NULL, NULL, ".5", TALMUIGA_NOT_READ, 0, ""},
+    {NULL, NULL, "x", TALMUIGA_NOT_READ, 0, ""},
+    {NULL, NULL, "", TALMUIGA_NOT_READ, 0, ""},
+    {NULL, NULL, "1,23\xff", TALMUIGA_NOT_READ, 4, ""},
+    {NULL, NULL, "12,34\xff", TALMUIGA_NOT_READ, 5, ""},
+    {"de", NULL, "1.234,50", TALMUIGA_DONE, 0, "1234.50"},
+    {"de", NULL, "-0,5", TALMUIGA_DONE, 0, "-0.5"},
+    {"de", NULL, "1,234.50", TALMUIGA_NOT_READ, 1, ""},
+    {"bn", NULL, "১২,৩৪,৫৬৭.৮৯", TALMUIGA_DONE, 0, "1234567.89"},
+    {"bn", NULL, "-১", TALMUIGA_DONE, 0, "-1"},
+    {"bn", NULL, "১২৩,৪", TALMUIGA_NOT_READ, 9, ""},
+    {"bn", NULL, "1234", TALMUIGA_NOT_READ, 0, ""},
+    {"xx", NULL, "1", TALMUIGA_NO_READING, 0, ""},
+    /* by skeletons: what is shown is read, rounded, scaled and without its sign */
+    {NULL, ".00", "1,234.50", TALMUIGA_DONE, 0, "1234.50"},
+    {NULL, "scale/100 sign-never", "250", TALMUIGA_DONE, 0, "250"},
+    {NULL, "integer-width/+000", "007", TALMUIGA_DONE, 0, "007"},
+    {NULL, "group-off", "1,234", TALMUIGA_NOT_READ, 1, ""},
+    {NULL, "K", "1.5K", TALMUIGA_NO_READING, 0, ""},
+    {NULL, "K .0", "1.5", TALMUIGA_NO_READING, 0, ""},
+    {NULL, "percent", "5%", TALMUIGA_NO_READING, 0, ""},
+    {NULL, "currency/USD", "$5.00", TALMUIGA_NO_READING, 0, ""},
+    {NULL, "currency/USD", "\xff", TALMUIGA_NO_READING, 0, ""},
+    {"de", "group-off", "1234,5", TALMUIGA_DONE, 0, "1234.5"},
+};
+
+/* Opens the formatter of a row: by a skeleton, in English with ranges too, or by words. */
+static uint32_t opened_for_reading(size_t row, talmuiga_formatter **formatter) {
+    const char *locale = reading[row].locale, *skeleton = reading[row].skeleton;
+    const size_t len = sizeof other_tables - 1;
+    if (!locale && !skeleton) return talmuiga_formatter_open_english(formatter);
+    if (!locale) {
+        return row % 2 ? talmuiga_formatter_open_english_skeleton(skeleton, strlen(skeleton), NULL, formatter)
+                       : talmuiga_formatter_open_english_ranges(skeleton, strlen(skeleton), NULL, formatter);
+    }
+    if (!skeleton) return talmuiga_formatter_open(other_tables, len, locale, "-", "plain", NULL, formatter);
+    return talmuiga_formatter_open_skeleton(other_tables, len, locale, skeleton, strlen(skeleton), NULL, formatter);
+}
+
+/* Reads in rooms of each length up to that of the decimal, and in a longer one. */
+static void judge_reading(size_t row) {
+    talmuiga_formatter *formatter;
+    const char *decimal = reading[row].decimal;
+    const size_t wanted = strlen(decimal);
+    if (opened_for_reading(row, &formatter) != TALMUIGA_DONE) {
+        judge("a formatter that reads", row, 0);
+        return;
+    }
+    for (size_t room_len = 0; room_len <= wanted + 1; room_len++) {
+        char *room = fresh_room();
+        size_t length = 99, byte = 99;
+        const int fits = wanted <= room_len;
+        uint32_t status =
+            talmuiga_formatter_read(formatter, reading[row].text, strlen(reading[row].text), room, room_len, &length, &byte);
+        judge("a text that is read", row,
+              status == (fits ? reading[row].status : (uint32_t)TALMUIGA_OUTPUT_TOO_SMALL) && length == wanted &&
+                  byte == reading[row].byte && holds(room, decimal, fits ? wanted : 0));
+    }
+    talmuiga_formatter_close(formatter);
+}
+
+/* Null with length 0, and without a place for the byte. */
+static void judge_null_reading(const talmuiga_formatter *formatter) {
+    size_t length = 99, byte = 99;
+    judge("null that is read", 0,
+          talmuiga_formatter_read(formatter, NULL, 0, NULL, 0, &length, &byte) == TALMUIGA_NOT_READ && length == 0 && byte == 0);
+    length = 99;
+    judge("null in place of the output", 0,
+          talmuiga_formatter_read(formatter, "1,234", 5, NULL, 0, &length, NULL) == TALMUIGA_OUTPUT_TOO_SMALL && length == 4);
+}
+
 /* Tables, a room, and what their judgement ends in: a status, a length, and what stands in the room. */
 static const struct {
     const char *tables;
@@ -254,6 +355,8 @@ int main(void) {
     for (size_t row = 0; row < ROWS(reaching); row++) judge_reaching(formatter, row);
     for (size_t row = 0; row < ROWS(one); row++) judge_one(formatter, row);
     for (size_t row = 0; row < ROWS(parts); row++) judge_parts(formatter, row);
+    for (size_t row = 0; row < ROWS(reading); row++) judge_reading(row);
+    judge_null_reading(formatter);
     for (size_t row = 0; row < ROWS(judged); row++) judge_tables(row);
     for (size_t row = 0; row < ROWS(listed); row++) judge_listed(row);
     talmuiga_formatter_close(formatter);

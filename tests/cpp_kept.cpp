@@ -157,6 +157,30 @@ static void by_skeletons(const std::string &tables) {
     judge("not canonical", fault_of([] { talmuiga::canonical({"currency/EURO"}); }) == "9 9 unknown option");
 }
 
+/* Texts of numbers that are read back. */
+static void as_read(const std::string &tables) {
+    using talmuiga::formatter;
+    using talmuiga::skeleton;
+    const formatter english, german(tables, "de"), bengali(tables, "bn"), rounded(skeleton{".00"});
+    judge("a text that is read", english.read("-1,234.50") == "-1234.50" && english.read("1234567") == "1234567");
+    judge("in German", german.read("1.234,5") == "1234.5");
+    judge("in Bengali", bengali.read("১২,৩৪,৫৬৭.৮৯") == "1234567.89");
+    judge("a rounded number", rounded.read(rounded("2.345")) == "2.34");
+    const std::string many(3000, '9');
+    judge("a long text", german.read(german(many)) == many);
+    const auto not_read = [](const formatter &by, std::string_view text) {
+        try {
+            return by.read(text);
+        } catch (const talmuiga::not_read &error) {
+            return std::to_string(error.byte()) + ' ' + error.what();
+        }
+    };
+    judge("a text that isn't read", not_read(english, "12,34") == "2 not a number's text");
+    judge("the empty text", not_read(english, "") == "0 not a number's text");
+    judge("its status", refusal([&] { english.read("x"); }) == TALMUIGA_NOT_READ);
+    judge("prices aren't read", refusal([] { formatter(skeleton{"currency/USD"}).read("$5.00"); }) == TALMUIGA_NO_READING);
+}
+
 /* English by skeletons, without tables. */
 static void in_english() {
     using talmuiga::formatter;
@@ -228,6 +252,7 @@ int main(int, char **words) {
     const std::string tables = whole(words[1]);
     by_skeletons(whole(words[2]));
     in_english();
+    as_read(whole(words[2]));
     as_messages(whole(words[2]));
     as_ranges(whole(words[2]));
     by_names(whole(words[2]));

@@ -234,7 +234,7 @@ def crates_picture() -> str:
             drawn.append(arrow_head(x[lower], to_y, x[lower] - x[upper], to_y - from_y))
     for bend in (node for node in x if not isinstance(node, str)):
         drawn.append(line(x[bend], y[bend], x[bend], y[bend] + height, GREY, 1.3))
-    kinds = {"decfmt": "#dbeafe", "talmuiga_c": "#dbeafe", "examples": "#dbeafe"}
+    kinds = dict.fromkeys(("decfmt", "locnum", "talmuiga_c", "examples"), "#dbeafe")
     for name in uses:
         fill = "#f3f4f6" if name.startswith(("rows", "test_")) else kinds.get(name, "#dcfce7")
         drawn.append(box(x[name] - width[name] / 2, y[name], width[name], height, fill))

@@ -19,7 +19,7 @@ from typing import Any
 
 import talmuiga
 import talmuiga.babel
-from talmuiga import (ArgumentRefused, Descending, Formatter, Message, MessageRefused, NoData, NoPattern, NotFormatted, Number,
+from talmuiga import (ArgumentRefused, Descending, Formatter, Message, MessageRefused, NoData, NoPattern, NoReading, NotFormatted, NotRead, Number,
                       SkeletonRefused, TablesRefused, WordsRefused)
 
 SAMPLE = open(sys.argv[1], "rb").read()
@@ -40,6 +40,8 @@ def judge(name: str, wanted: object, call: Callable[[], object]) -> None:
         given = type(error)
         if isinstance(error, NotFormatted):
             given = (type(error), error.index, error.text, error.reason)
+        elif isinstance(error, NotRead):
+            given = (type(error), error.text, error.byte)
         elif isinstance(error, TablesRefused):
             given = (type(error), str(error))
         elif isinstance(error, SkeletonRefused):
@@ -224,6 +226,33 @@ WRONG: list[Any] = [-1, 1000, True, 0.5]
 for wrong in WRONG:
     judge(f"fraction {wrong}", ValueError, lambda: Formatter(SIX, "en", fraction=wrong))
 judge("a text that can't be rounded", (NotFormatted, 0, "1e3", "not a decimal"), lambda: Formatter.english(fraction=2).format("1e3"))
+
+# Texts of numbers that are read back, with each digit. The texts are those of the first part of this file and of ICU 72.
+for number, text in ENGLISH_TEXTS:
+    judge(f"English read of {text[:20]}", str(Decimal(talmuiga.text_of(number))), lambda: str(ENGLISH.read(text)))
+READ_TEXTS: list[tuple[bytes, str, str, str]] = [
+    (SIX, "de", "1.234.567,89", "1234567.89"), (SIX, "de", "-0,50", "-0.50"), (SIX, "de", "1234567,8", "1234567.8"),
+    (SIX, "fr", "-98\u202f765", "-98765"), (SIX, "ja", "1,234", "1234"), (SIX, "bn", "১২,৩৪,৫৬৭.৮৯", "1234567.89"),
+    (SIX, "ar-EG", "-٩٨٬٧٦٥", "-98765"), (SIX, "ar-EG", "١٬٢٣٤٫٥", "1234.5")]
+for data, locale, text, decimal in READ_TEXTS:
+    judge(f"{locale} read of {text}", decimal, lambda: str(Formatter(data, locale).read(text)))
+for text, byte in [("12,34", 2), ("1,234x", 5), ("1 234", 1), (".5", 0), ("", 0), ("1e3", 1), ("5\0", 1), ("1,23\ud800", 4), ("\ud800", 0)]:
+    judge(f"not read {text!r}", (NotRead, text, byte), lambda: ENGLISH.read(text))
+judge("not read in German", (NotRead, "1,234.50", 1), lambda: Formatter(SIX, "de").read("1,234.50"))
+judge("not read in Bengali, by bytes", (NotRead, "১২৩,৪", 9), lambda: Formatter(SIX, "bn").read("১২৩,৪"))
+judge("why it isn't read", "the text isn't a number's: byte 2 of '12,34'", lambda: str(call_error(lambda: ENGLISH.read("12,34"))))
+judge("a rounded number is read as it is shown", ["2.34", "2.34"],
+      lambda: [str(by.read(by.format("2.345"))) for by in (Formatter.english(fraction=2), Formatter(SIX, "en", fraction=2))])
+judge("read by a formatter of ranges", "1234", lambda: str(Formatter.english(skeleton="", ranges=True).read("1,234")))
+for none in (Formatter(SAMPLE, "en", style="short"), PRICES, Formatter.english(skeleton="%"), Formatter.english(skeleton="K .0")):
+    judge("a formatter that reads no texts", NoReading, lambda: none.read("1"))
+judge("exceptions of reading", True, lambda: issubclass(NoReading, talmuiga.Refused) and issubclass(NotRead, ValueError))
+judge("a text of another type", AttributeError, lambda: ENGLISH.read(NOTHING))
+DECIMALS = [Decimal(f"{CHANCE.randrange(-10**15, 10**15)}e-{CHANCE.randrange(0, 15)}") for _ in range(2000)]
+for locale in ("en", "de", "fr", "ja", "bn", "ar-EG"):
+    PLAINLY = Formatter(SIX, locale)
+    judge(f"read back in {locale}", list(map(str, map(talmuiga.text_of, DECIMALS))),
+          lambda: [format(PLAINLY.read(text), "f") for text in PLAINLY.format_many(DECIMALS)])
 
 # English by a skeleton, without tables.
 judge("dollars", "$1,234.50", lambda: Formatter.english(skeleton="currency/USD").format(1234.5))

@@ -3,3 +3,7 @@ pub mod Spelled
 pub mod ValuesFound
 pub mod Rejected
 pub mod OneReading
+pub mod CompactFound
+pub mod CompactRejected
+pub mod CompactTried
+pub mod OneCompactReading

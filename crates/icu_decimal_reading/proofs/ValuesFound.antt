@@ -13,6 +13,7 @@ use Rattle.std.proofs.lemmas.List.{take-append-drop}
 use Rattle.std.proofs.lemmas.List.Elements.{filter_map-append}
 use Rattle.fixed_decimal.specs.declared.signs.Sign.{Sign}
 use Rattle.fixed_decimal.specs.Unsigned.{Unsigned, IsUnsigned, integer, fraction, integer_count}
+use Rattle.writeable.specs.Events.{characters}
 use Rattle.icu_decimal.specs.Decimal.{DecimalFormat, strategy_of, unsigned_events}
 use Rattle.icu_decimal_options.specs.Grouping.{concatenated, joined, joined_after}
 use Rattle.icu_decimal_options.proofs.GroupingLaws.{concatenated-digit_groups}
@@ -41,6 +42,10 @@ value_from-digit (d ∷ ds) n (suc x) within different =
     ap (λ b. if b then Some n else value_from (n + 1) ds (slice_index ds x)) (ne_eqb d (slice_index ds x) (different 0 (suc x) 0 (omega arith) within))
     ∙ value_from-digit ds (n + 1) x (omega (arith, within)) (λ i j e l k. different (suc i) (suc j) e (omega (arith, l)) (omega (arith, k)))
     ∙ ap Some sum
+
+-- the number is one that the digits of the characters make: with none of them, or with the last run behind the separator
+abbrev pub IsMadeBy : DecimalFormat → List ℕ → Unsigned → Type 0
+IsMadeBy f cs u = (u ≡ number_of (values f.digits cs) 0) ⊎ (u ≡ number_of (values f.digits cs) (last_run f.digits cs))
 
 module _ (f : DecimalFormat) (h : IsReadable f.symbols.strings f.digits) where
   digit_value : (x : ℕ) → x < 10 → value_of f.digits (slice_index f.digits x) ≡ Some x
@@ -134,27 +139,13 @@ module _ (f : DecimalFormat) (h : IsReadable f.symbols.strings f.digits) where
 
   -- ---- a written number
 
-  module _ (sign : Sign) (u : Unsigned) (hu : IsUnsigned u) where
-    abbrev before : List ℕ
-    before = (affixes f.symbols.strings sign).before
-
-    abbrev after : List ℕ
-    after = (affixes f.symbols.strings sign).after
-
+  -- a number between two texts without a digit
+  module _ (before after : List ℕ) (before_none : Every (IsOther f) before) (after_none : Every (IsOther f) after) (u : Unsigned) (hu : IsUnsigned u) where
     abbrev whole : List ℕ
     whole = joined (chars f.symbols.strings.grouping_separator) (map (λ g. digit_characters f g) (groups_of f u))
 
     abbrev part : List ℕ
     part = fraction_text (chars f.symbols.strings.decimal_separator) (digit_characters f (fraction u))
-
-    shape : written f sign u ≡ before ++ ((whole ++ part) ++ after)
-    shape = characters-signed f sign (unsigned_events f u) ∙ ap (λ l. before ++ (l ++ after)) (characters-unsigned f u)
-
-    before_others : Every (IsOther f) before
-    before_others = every_of_all (IsOther f) before (h.affixes_free sign).before_free
-
-    after_others : Every (IsOther f) after
-    after_others = every_of_all (IsOther f) after (h.affixes_free sign).after_free
 
     decimal_others : Every (IsOther f) (chars f.symbols.strings.decimal_separator)
     decimal_others = every_of_all (IsOther f) (chars f.symbols.strings.decimal_separator) h.decimal_free
@@ -163,45 +154,51 @@ module _ (f : DecimalFormat) (h : IsReadable f.symbols.strings f.digits) where
     group_others = every_of_all (IsOther f) (chars f.symbols.strings.grouping_separator) h.grouping_free
 
     -- the values that are found are the number's digits
-    values-written : values f.digits (written f sign u) ≡ u.digits
-    values-written =
-        ap (values f.digits) shape
-        ∙ values-append before ((whole ++ part) ++ after)
-        ∙ ap₂ ◌++◌ (values-others before before_others)
+    values-between : values f.digits (before ++ ((whole ++ part) ++ after)) ≡ u.digits
+    values-between =
+        values-append before ((whole ++ part) ++ after)
+        ∙ ap₂ ◌++◌ (values-others before before_none)
         (values-append (whole ++ part) after
         ∙ ap₂ ◌++◌ (values-append whole part
         ∙ ap₂ ◌++◌ (values-joined (chars f.symbols.strings.grouping_separator) group_others (groups_of f u) (groups_some u hu f).0)
         (values-fraction (chars f.symbols.strings.decimal_separator) decimal_others (fraction u) (fraction_below u hu)))
-        (values-others after after_others))
+        (values-others after after_none))
         ∙ append-nil (concatenated (groups_of f u) ++ fraction u)
         ∙ ap (λ l. l ++ fraction u) (concatenated-digit_groups (integer u) f.symbols.grouping_sizes (strategy_of f.options))
         ∙ take-append-drop (integer_count u) u.digits
 
     -- the last run is the fraction, if there is one
-    last_run-written : (d : ℕ) (ds : List ℕ) → fraction u ≡ d ∷ ds → last_run f.digits (written f sign u) ≡ length (d ∷ ds)
-    last_run-written d ds e =
-        ap (λ cs. (behind no_run cs).count) shape
-        ∙ ap (λ (r : Run). r.count) (run-append no_run before ((whole ++ part) ++ after) ∙ run-append (behind no_run before) (whole ++ part) after)
-        ∙ run-others (behind (behind no_run before) (whole ++ part)) after after_others
+    last_run-between : (d : ℕ) (ds : List ℕ) → fraction u ≡ d ∷ ds → last_run f.digits (before ++ ((whole ++ part) ++ after)) ≡ length (d ∷ ds)
+    last_run-between d ds e =
+        ap (λ (r : Run). r.count) (run-append no_run before ((whole ++ part) ++ after) ∙ run-append (behind no_run before) (whole ++ part) after)
+        ∙ run-others (behind (behind no_run before) (whole ++ part)) after after_none
         ∙ ap (λ (r : Run). r.count) (run-append (behind no_run before) whole part)
         ∙ ap (λ fs. (behind (behind (behind no_run before) whole)
         (fraction_text (chars f.symbols.strings.decimal_separator) (digit_characters f fs))).count) e
         ∙ run-fraction (behind (behind no_run before) whole) (chars f.symbols.strings.decimal_separator) decimal_others h.decimal_some d ds
         (subst (Every IsDigit) e (fraction_below u hu))
 
-    abbrev IsReadWith : ℕ → Type 0
-    IsReadWith scale = u ≡ number_of (values f.digits (written f sign u)) scale
-
-    read_with : (scale : ℕ) → u.scale ≡ scale → IsReadWith scale
+    read_with : (scale : ℕ) → u.scale ≡ scale → u ≡ number_of (values f.digits (before ++ ((whole ++ part) ++ after))) scale
     read_with scale e =
         let of : List ℕ → ℕ → Unsigned = λ ds n. record { digits = ds; scale = n } in
-        ap₂ of (sym values-written) e
+        ap₂ of (sym values-between) e
 
-    -- a number is the one that its text's digits make, with none of them or with the last run behind the separator
-    pub number_found : IsReadWith 0 ⊎ IsReadWith (last_run f.digits (written f sign u))
-    number_found = go (fraction u) refl
+    -- the number is one that the digits of the whole text make
+    number_between : IsMadeBy f (before ++ ((whole ++ part) ++ after)) u
+    number_between = go (fraction u) refl
       where
-        go : (fs : List ℕ) → fraction u ≡ fs → IsReadWith 0 ⊎ IsReadWith (last_run f.digits (written f sign u))
+        go : (fs : List ℕ) → fraction u ≡ fs → IsMadeBy f (before ++ ((whole ++ part) ++ after)) u
         go [] e = inl (read_with 0 (sym (fraction_length u hu) ∙ ap length e))
-        go (d ∷ ds) e = inr (read_with (last_run f.digits (written f sign u))
-            (sym (fraction_length u hu) ∙ ap length e ∙ sym (last_run-written d ds e)))
+        go (d ∷ ds) e = inr (read_with (last_run f.digits (before ++ ((whole ++ part) ++ after)))
+            (sym (fraction_length u hu) ∙ ap length e ∙ sym (last_run-between d ds e)))
+
+    -- so it is of a text with the characters of the number between these two
+    pub number_inside : (cs : List ℕ) → cs ≡ before ++ (characters (unsigned_events f u) ++ after) → IsMadeBy f cs u
+    number_inside cs e = subst (λ l. IsMadeBy f l u) (sym (e ∙ ap (λ l. before ++ (l ++ after)) (characters-unsigned f u))) number_between
+
+  -- a written number is one that its text's digits make
+  pub number_found : (sign : Sign) (u : Unsigned) → IsUnsigned u → IsMadeBy f (written f sign u) u
+  number_found sign u hu =
+      let a = affixes f.symbols.strings sign in
+      number_inside a.before a.after (every_of_all (IsOther f) a.before (h.affixes_free sign).before_free)
+      (every_of_all (IsOther f) a.after (h.affixes_free sign).after_free) u hu (written f sign u) (characters-signed f sign (unsigned_events f u))

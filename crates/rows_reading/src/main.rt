@@ -1,6 +1,8 @@
-//! Rows of texts that are read as numbers: those of a locale, and those with a suffix.
+//! Rows of texts that are read as numbers: plain and compact ones of a locale, and those with a
+//! suffix.
 #![tactic(auto)]
 
+mod compact;
 mod digits;
 mod locales;
 mod scaled;
@@ -26,6 +28,10 @@ impl Calls for ReadingCalls {
         match (call, arguments) {
             ("read_text", [locale, text]) => {
                 locales::returned(alloc, documents, locale.as_str(), text.as_str())
+            }
+            ("read_compact", [locale, width, text]) => {
+                let by = (locale.as_str(), width.as_str());
+                compact::returned(alloc, documents, by, text.as_str())
             }
             ("read_scaled", [scale, text]) => scaled::read(alloc, scale.as_str(), text.as_str()),
             ("scale_down", [scale, round, number]) => {

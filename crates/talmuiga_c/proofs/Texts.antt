@@ -10,6 +10,14 @@ use Rattle.talmuiga_c.specs.Asked.{text_in}
 pub is_no_text : (bytes : List ℕ) → is_utf8 bytes ≡ false → ¬ (IsUtf8 bytes)
 is_no_text bytes e = λ text. absurd (false≢true (sym e ∙ is_utf8-from_IsUtf8 bytes text))
 
+-- bytes that are no text fail the test
+pub fails_test : (bytes : List ℕ) → ¬ (IsUtf8 bytes) → is_utf8 bytes ≡ false
+fails_test bytes no_text = go (is_utf8 bytes) refl
+  where
+    go : (b : Bool) → is_utf8 bytes ≡ b → b ≡ false
+    go true e = absurd (no_text (IsUtf8-from_is_utf8 bytes e))
+    go false e = refl
+
 -- bytes that are a text are that text
 pub text_in-text : (bytes : List ℕ) → IsUtf8 bytes → text_in bytes ≡ Some bytes
 unfolding text_in

@@ -15,5 +15,6 @@ pub mod MessageStatuses
 pub mod Messages
 pub mod Patterns
 pub mod Ranges
+pub mod ReadBack
 pub mod SkeletonFaults
 pub mod Skeletons

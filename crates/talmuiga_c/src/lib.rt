@@ -24,8 +24,11 @@ mod messages;
 mod opened;
 mod output;
 mod patterns;
+mod plain_digits;
 mod range_status;
 mod ranges;
+mod read_back;
+mod reading_calls;
 mod skeletons;
 mod status;
 

@@ -9,6 +9,8 @@
     'unit/kilometer .### rounding-mode-half-up unit-width-full-name'
     >>> talmuiga.Formatter.english(skeleton="currency/USD", ranges=True).format_range(3, 5)
     '$3.00 – $5.00'
+    >>> talmuiga.Formatter.english().read("1,234.50")
+    Decimal('1234.50')
     >>> talmuiga.Message.english("{n, plural, one{# file} other{# files}}")(n=1234)
     '1,234 files'
 
@@ -25,9 +27,9 @@ from typing import Any, Iterable, List, Literal, Optional, Sequence, SupportsFlo
 from . import _library
 from .options import skeleton_of
 
-__all__ = ["ArgumentRefused", "Descending", "Formatter", "Message", "MessageRefused", "NoData", "NoPattern", "NotFormatted",
-           "Number", "Refused", "SkeletonRefused", "TablesRefused", "WordsRefused", "canonical_skeleton", "names_in", "skeleton_of",
-           "tables_fault"]
+__all__ = ["ArgumentRefused", "Descending", "Formatter", "Message", "MessageRefused", "NoData", "NoPattern", "NoReading",
+           "NotFormatted", "NotRead", "Number", "Refused", "SkeletonRefused", "TablesRefused", "WordsRefused", "canonical_skeleton",
+           "names_in", "skeleton_of", "tables_fault"]
 __version__ = "0.2.0"
 
 #: What is formatted: a whole number, a decimal, a text that spells one, or a float by its shortest text. Numbers of other types, as
@@ -45,6 +47,9 @@ NO_PATTERN, DESCENDING = 10, 11
 
 #: Why the end of a range isn't formatted, by its status.
 END_REASONS = {12: "not a decimal", 13: "too many digits", 14: "overflow"}
+
+#: Statuses of reading in the library for C.
+NOT_READ, NO_READING = 22, 23
 
 #: The names of parts, by their numbers in the library for C.
 PARTS = {1: "minusSign", 2: "plusSign", 3: "integer", 4: "fraction", 5: "group", 6: "decimal", 7: "currency",
@@ -101,6 +106,19 @@ class NoData(Refused):
 
 class NoPattern(Refused):
     """The tables have no range pattern for the locale, or the formatter was made without ranges."""
+
+
+class NoReading(Refused):
+    """The formatter reads no texts: it writes compact numbers, money, percents or units, or its texts don't tell their numbers."""
+
+
+class NotRead(ValueError):
+    """A text isn't a number's: the text, and the byte of its UTF-8 at which it differs from the texts of numbers."""
+
+    def __init__(self, text: str, byte: int):
+        super().__init__(f"the text isn't a number's: byte {byte} of {text!r}")
+        self.text = text
+        self.byte = byte
 
 
 class Descending(ValueError):
@@ -199,6 +217,15 @@ def range_refusal(status: int, start: str, end: str) -> Exception:
     if status in END_REASONS:
         return NotFormatted(1, end, END_REASONS[status])
     return not_formatted(0, start, status)
+
+
+def reading_refusal(status: int, byte: int, text: str) -> Exception:
+    """The exception of a text that isn't read."""
+    if status == NO_READING:
+        return NoReading("the formatter reads no texts")
+    if status == NOT_READ:
+        return NotRead(text, byte)
+    return MemoryError("the library had no memory for a number")
 
 
 def rounding_skeleton(style: Optional[str], system: Optional[str], grouping: Optional[str], fraction: int) -> str:
@@ -343,6 +370,18 @@ class Formatter:
         if isinstance(shown, int):
             raise range_refusal(shown, first, last)
         return shown
+
+    def read(self, text: str) -> Decimal:
+        """The decimal that a number's text shows, in the digits, signs and separators of the locale, with its groups or with none.
+
+        What is read is the number as it is shown: where the formatter scales or rounds, or shows no sign, this isn't taken back.
+        Zeros at the end of a fraction are kept. `NotRead` where the text is no number's; `NoReading` where the formatter writes
+        compact numbers, money, percents or units.
+        """
+        number = _library.read(self._opened, utf8(text))
+        if isinstance(number, tuple):
+            raise reading_refusal(*number, text)
+        return Decimal(number)
 
     def format_many(self, numbers: Iterable[Number], *, mark: Optional[str] = None) -> List[str]:
         """The texts of numbers, in their order, by one call of the library, without the interpreter's lock.

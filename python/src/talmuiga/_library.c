@@ -356,6 +356,24 @@ static PyObject *range(PyObject *Py_UNUSED(module), PyObject *words) {
     return output.at ? text_or_status(&output, status) : NULL;
 }
 
+/* The decimal that a text in UTF-8 shows; or the status, and the byte of the fault. */
+static PyObject *read_back(PyObject *Py_UNUSED(module), PyObject *words) {
+    struct output output;
+    PyObject *capsule;
+    const char *text;
+    Py_ssize_t len;
+    size_t byte;
+    uint32_t status;
+    if (!PyArg_ParseTuple(words, "Oy#", &capsule, &text, &len)) return NULL;
+    const talmuiga_formatter *formatter = (const talmuiga_formatter *)PyCapsule_GetPointer(capsule, NAME);
+    if (!formatter) return NULL;
+    begin(&output);
+    do status = talmuiga_formatter_read(formatter, text, (size_t)len, output.at, output.room, &output.length, &byte);
+    while (grows_to_fit(&output));
+    if (!output.at) return NULL;
+    return ended(&output, status ? Py_BuildValue("(In)", (unsigned)status, (Py_ssize_t)byte) : text_in(&output));
+}
+
 /* ---- Many numbers: read with the interpreter's lock, formatted without it, made into texts with it again, a thousand at
  * a time. */
 
@@ -742,6 +760,7 @@ static PyMethodDef methods[] = {
     {"open_english_ranges", open_english_ranges, METH_VARARGS,
      "A formatter in English that writes ranges, by a skeleton, or a status or a fault."},
     {"range", range, METH_VARARGS, "What the range of two texts is formatted to, or a status."},
+    {"read", read_back, METH_VARARGS, "The decimal that a text in UTF-8 shows, or a status and the byte of the fault."},
     {"fault", fault, METH_VARARGS, "Why tables are refused; an empty text where they aren't."},
     {"list", list, METH_VARARGS, "What tables hold of a kind, a name in each line, or a status."},
     {"one", (PyCFunction)(void (*)(void))one, METH_FASTCALL, "What a number is formatted to, or a status."},
